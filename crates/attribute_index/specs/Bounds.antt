@@ -1,4 +1,4 @@
--- Which abbreviations belong to values that a pattern matches.
+-- The abbreviations of the values that a pattern matches.
 use Rattle.std.specs.Prelude.{ℕ, Bool, ◌&&◌, List, Option, Some, None}
 use Rattle.std.specs.Ordering.{is_eq, is_le, is_lt}
 use Rattle.record_model.specs.Matching.{before_wildcard}
@@ -13,7 +13,8 @@ use Rattle.attribute_index.specs.Abbreviations.{
 }
 use Rattle.attribute_index.specs.Rows.{first_wanted}
 
--- the abbreviation is the first, or lies between the first and the end
+-- Returns whether the abbreviation is in a range. Without an end, the range has the first
+-- abbreviation alone. Otherwise it begins with the first, and stops before the end.
 abbrev pub is_in : Abbreviation → Option Abbreviation → Abbreviation → Bool
 is_in from None abbreviation = is_eq (abbreviation_cmp abbreviation from)
 is_in from (Some end) abbreviation =
@@ -22,15 +23,16 @@ is_in from (Some end) abbreviation =
 abbrev pub is_within : Bounds → Abbreviation → Bool
 is_within bounds abbreviation = is_in bounds.from bounds.end abbreviation
 
--- if an asterisk ends the pattern, the end has the symbols of the text before it, with the last one
--- raised; otherwise there is no end
+-- States that the end of a range fits a pattern. If an asterisk ends the pattern, the end has the
+-- symbols of the name and of the text before the asterisk, with the last one raised. Otherwise
+-- there is no end.
 abbrev pub IsEnd : List ℕ → Option (List ℕ) → Option Abbreviation → Type 0
 IsEnd name None None = Unit {0}
 IsEnd name (Some front) (Some end) = Spells end (symbols_to Raised (name, front))
 IsEnd name None (Some end) = ⊥
 IsEnd name (Some front) None = ⊥
 
--- the range is that of a name and a pattern
+-- The range of a name and a pattern.
 pub record AreBounds (bounds : Bounds) (name pattern : List ℕ) : Type 0 where
   pub from : IsAbbreviation bounds.from (first_wanted name pattern)
   pub end : IsEnd name (before_wildcard pattern) bounds.end

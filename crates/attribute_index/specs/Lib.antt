@@ -1,8 +1,8 @@
--- entries of attributes, and which of them a pattern finds (RFC 6690 sections 2 and 4.1)
+-- Entries of attributes, and those that a pattern finds (RFC 6690 sections 2 and 4.1).
 pub mod Entries
--- numbers that order most values of attributes before their texts, and how a value is stored
+-- Numbers that order most values of attributes before their texts are compared, and stored values.
 pub mod Abbreviations
 pub mod Values
--- how an index is stored: rows of values with numbers, and which of them a pattern matches
+-- The stored form of an index: rows of values with numbers, and those that a pattern matches.
 pub mod Rows
 pub mod Bounds

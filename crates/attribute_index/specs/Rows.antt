@@ -1,5 +1,5 @@
--- How an index is stored: a row for each value of a name and each number of a record that carries
--- it.
+-- The stored form of an index. It has a row for each value of a name and each number of a record
+-- that carries it.
 use Rattle.std.specs.Prelude.{
   ◌≡◌,
   ℕ,
@@ -31,49 +31,49 @@ use Rattle.attribute_index.specs.declared.rows.Edit.TheVariants.{Put, Take}
 use Rattle.attribute_index.specs.declared.rows.Row.{Row}
 use Rattle.attribute_index.specs.Entries.{Entry}
 
--- the order of names with values: by name, and for one name by the text of the value
+-- Returns the order of two names with values: by name, and for one name by the text of the value.
 abbrev pub value_cmp : List ℕ × List ℕ → List ℕ × List ℕ → Ordering
 value_cmp x y = ordering_then (slice_cmp nat_cmp x.0 y.0) (slice_cmp nat_cmp x.1 y.1)
 
 abbrev pub is_same_value : List ℕ × List ℕ → List ℕ × List ℕ → Bool
 is_same_value x y = pointwise nat_eq x.0 y.0 && pointwise nat_eq x.1 y.1
 
--- rows are ordered by value, and rows of one value by number
+-- Returns the order of two rows: by value, and for one value by number.
 abbrev pub row_cmp : Row → Row → Ordering
 row_cmp x y = ordering_then (value_cmp x.value y.value) (nat_cmp x.number y.number)
 
--- the entry of a row
+-- Returns the entry of a row.
 abbrev pub entry_of : Row → Entry
 entry_of row = record { name = row.value.0; value = row.value.1; number = row.number }
 
--- the entries of all rows, which are keys of a map
+-- Returns the entries of all rows, which are keys of a map.
 abbrev pub entries_of_rows : List (Row × Unit {0}) → List Entry
 entries_of_rows rows = map (λ row. entry_of row.0) rows
 
--- the entries of values of a name under a number
+-- Returns the entries of these values of a name, for the record with this number.
 abbrev pub entries_under_name : List ℕ → List (List ℕ) → ℕ → List Entry
 entries_under_name name values number =
     map (λ value. record { name = name; value = value; number = number }) values
 
--- where the values that a pattern of a name matches begin: at the text before its wildcard, or at
--- the pattern
+-- Returns where the values begin that a pattern of a name matches: at the text before its wildcard,
+-- or else at the pattern.
 abbrev pub first_wanted : List ℕ → List ℕ → List ℕ × List ℕ
 first_wanted name pattern = (name, unwrap_or (before_wildcard pattern) pattern)
 
--- the first row that may have that value
+-- Returns the first row that may have that value.
 abbrev pub first_row : List ℕ → List ℕ → Row
 first_row name pattern = record { value = first_wanted name pattern; number = 0 }
 
--- the value is of this name, and the pattern matches it
+-- Returns whether the value is of this name, and the pattern matches it.
 abbrev pub is_wanted : List ℕ → List ℕ → List ℕ × List ℕ → Bool
 is_wanted name pattern value = bytes_eq value.0 name && matches_value pattern value.1
 
--- the numbers of the rows whose values are sought
+-- Returns the numbers of the rows whose values are sought.
 abbrev pub wanted_numbers : List ℕ → List ℕ → List (Row × Unit {0}) → List ℕ
 wanted_numbers name pattern rows =
     map (λ row. row.0.number) (filter (λ row. is_wanted name pattern row.0.value) rows)
 
--- the rows that are sought come first: no such row follows one that is not
+-- States that the rows that are sought come first: no such row follows one that is not sought.
 unfoldable pub WantedFirst : List ℕ → List ℕ → List (Row × Unit {0}) → Type 0
 WantedFirst name pattern [] = Unit {0}
 WantedFirst name pattern (row ∷ rows) =
@@ -81,13 +81,13 @@ WantedFirst name pattern (row ∷ rows) =
     → AllByRecursion (λ other. is_wanted name pattern other.0.value ≡ false) rows)
     × WantedFirst name pattern rows
 
--- whether an entry is there after an edit, given whether it was there before and whether the edit
--- is about it
+-- Returns whether an entry exists after an edit, given whether it existed before and whether the
+-- edit is about it.
 abbrev pub is_after : Edit → Bool → Bool → Bool
 is_after Put before edited = before || edited
 is_after Take before edited = before && not edited
 
--- the value that an edit of a row leaves at its key
+-- Returns the value that an edit of a row leaves at its key, or `None` if it removes the row.
 abbrev pub after_edit : Edit → Option (Unit {0})
 after_edit Put = Some tt
 after_edit Take = None

@@ -3,7 +3,7 @@ ghost use Rattle.std.specs.Prelude.{◌≡◌, ◌<◌, ◌≤◌, ℕ, List, []
 ghost use Rattle.attribute_index.specs.Abbreviations.{AreOctets, IsAbbreviation, Spells, digit_of};
 ghost use Rattle.attribute_index.specs.Abbreviations.{spelled, symbols_of, symbols_to};
 
-/// How many symbols one number spells.
+/// The number of symbols that one number spells.
 const SYMBOLS: usize = 8;
 
 /// The base in which a number spells symbols. Every digit is below it.
@@ -11,7 +11,7 @@ const BASE: u64 = 256;
 
 /// The first 24 symbols of a name and its value, eight in each number.
 ///
-/// Different abbreviations have the order of their names and values.
+/// Different abbreviations are in the order of their names and values.
 #[derive(Clone, Copy, Drop, PartialEq, Eq, PartialOrd, Ord)]
 pub(crate) struct Abbreviation {
     /// The first eight symbols.
@@ -22,12 +22,12 @@ pub(crate) struct Abbreviation {
     third: u64,
 }
 
-/// Which symbol counts as the last of a name and a value.
+/// The choice of the last symbol of a name and a value.
 #[derive(Clone, Copy, Drop)]
 pub(crate) enum Last {
-    /// Their own last symbol.
+    /// The last symbol as it is.
     Own,
-    /// The symbol after it.
+    /// The last symbol raised by one.
     Raised,
 }
 
@@ -51,7 +51,7 @@ fn digit_at(name: &[u8], value: &[u8], at: usize) -> u64
     0
 }
 
-/// Returns the digit of the symbol at this index, with this last symbol.
+/// Returns the digit of the symbol at this index. `last` says whether the last symbol is raised.
 fn digit_to(name: &[u8], value: &[u8], last: Last, at: usize) -> u64
     requires name { AreOctets name.now }
     requires value { AreOctets value.now }
@@ -70,8 +70,8 @@ fn digit_to(name: &[u8], value: &[u8], last: Last, at: usize) -> u64
     }
 }
 
-/// Returns the number of eight symbols of a name and a value, from this index on, with this last
-/// symbol.
+/// Returns the number that eight symbols of a name and a value spell, from this index on. `last`
+/// says whether the last symbol is raised.
 fn number_at(name: &[u8], value: &[u8], last: Last, from: usize) -> u64
     requires name { AreOctets name.now }
     requires value { AreOctets value.now }
@@ -88,7 +88,8 @@ fn number_at(name: &[u8], value: &[u8], last: Last, from: usize) -> u64
     number
 }
 
-/// Returns the numbers of the first 24 symbols of a name and a value, with this last symbol.
+/// Returns the numbers that the first 24 symbols of a name and a value spell. `last` says whether
+/// the last symbol is raised.
 fn numbers_of(name: &[u8], value: &[u8], last: Last) -> Abbreviation
     requires name { AreOctets name.now }
     requires value { AreOctets value.now }

@@ -5,13 +5,15 @@ ghost use Rattle.attribute_index.specs.Bounds.{AreBounds, is_within};
 use crate::abbreviations::Abbreviation;
 use listing::before_wildcard;
 
-/// The range of abbreviations whose values a pattern of a name matches, among those that spell
-/// their whole values.
+/// The range of the abbreviations that belong to values of a name that a pattern matches.
+///
+/// Among abbreviations that spell their names and values whole, exactly those in the range belong
+/// to such values.
 #[derive(Clone, Copy, Drop)]
 pub(crate) struct Bounds {
-    /// The first.
+    /// The first abbreviation of the range.
     from: Abbreviation,
-    /// The first after the range, or `None` if the range has only one.
+    /// The first abbreviation after the range, or `None` if the range has only one.
     end: Option<Abbreviation>,
 }
 

@@ -19,7 +19,7 @@ use rd_base::{PairRef, Starved, Text};
 use std::alloc::Global;
 use std::marker::Model;
 
-/// An index of which records carry which values of which names.
+/// An index of attributes: each entry says that a record carries a value of a name.
 ///
 /// The values of `rel`, `rev`, `rt` and `if` are lists (RFC 6690 section 2). The index has an entry
 /// for each part of such a value, and so none for a value without a part.
@@ -28,11 +28,11 @@ use std::marker::Model;
 /// [`AttributeIndex::with`] and [`AttributeIndex::without`] consume an index and return the changed
 /// one.
 ///
-/// Contracts see an index as the list of its entries: each a name, a value and a number, in
-/// ascending order and without duplicates.
+/// Contracts see an index as the list of its entries, in ascending order and without duplicates. An
+/// entry is a name, a value and a number.
 #[derive(Drop)]
 pub struct AttributeIndex {
-    /// Each value with each number of a record that carries it.
+    /// The rows: each value with each number of a record that carries it.
     rows: Rows,
 }
 

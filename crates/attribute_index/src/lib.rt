@@ -1,4 +1,4 @@
-//! Which records carry which values of which attributes, as versions that never change.
+//! The index of the values of attributes that records carry, as versions that never change.
 #![tactic(auto)]
 
 mod abbreviations;

@@ -27,9 +27,9 @@ use std::sync::ledger::{Blank, Ledger};
 /// its value.
 #[derive(Drop, PartialEq, Eq, PartialOrd, Ord)]
 pub struct Row {
-    /// The value.
+    /// The value, with its name.
     pub(crate) value: Value,
-    /// The number.
+    /// The number of the record.
     pub(crate) number: u64,
 }
 
@@ -49,7 +49,7 @@ pub(crate) type Rows = ChunkMap<Row, ()>;
 /// An edit of rows.
 #[derive(Clone, Copy, Drop)]
 pub(crate) enum Edit {
-    /// Adds rows that are not there yet.
+    /// Adds rows that do not exist yet.
     Put,
     /// Removes rows.
     Take,
@@ -70,7 +70,7 @@ impl Change<()> for Edit {
     }
 }
 
-/// Returns the next row of a cursor over rows.
+/// Returns the next row of a cursor over rows, or `None` at the end.
 pub(crate) fn next_row<'a, L: Ledger>(
     blank: Blank,
     rows: &mut RangeIter<'a, Row, ()>,
@@ -86,8 +86,7 @@ pub(crate) fn next_row<'a, L: Ledger>(
     Some(row)
 }
 
-/// Returns an equal row. If a row is there that has an equal value, both share the texts of the
-/// value.
+/// Returns an equal row. If one of `rows` has an equal value, both share the texts of the value.
 ///
 /// So records that carry a long value share its texts.
 fn shared_row(rows: &Rows, row: Row) -> Result<Row, Starved>

@@ -33,12 +33,12 @@ struct Abbreviated {
     pair: Pair,
 }
 
-/// How a name and a value are stored.
+/// The stored form of a name and a value.
 #[derive(Drop)]
 enum Kept {
-    /// As an abbreviation that spells both whole, without allocating.
+    /// An abbreviation that spells both whole, and is stored without allocating.
     Whole(Abbreviation),
-    /// As texts, which no version copies.
+    /// Texts, which versions share without copying them.
     Long(Arc<Abbreviated>),
 }
 
@@ -122,8 +122,10 @@ impl Value {
         }
     }
 
-    /// Returns the order of a value that is stored as texts. The order is that of the
-    /// abbreviations. If these are equal and leave symbols out, it is that of the texts.
+    /// Returns the order of two values, the first of which is stored as texts.
+    ///
+    /// The order is that of the abbreviations. If these are equal and leave symbols out, it is that
+    /// of the texts.
     #[inline(never)]
     fn order_by_texts(&self, other: &Value) -> Ordering
         ensures { result ≡ value_cmp self.now other.now }
@@ -142,8 +144,8 @@ impl Value {
         }
     }
 
-    /// Returns the order of two values: that of their abbreviations, if these spell the values
-    /// whole.
+    /// Returns the order of two values. If the abbreviation of the first spells it whole, that is
+    /// the order of their abbreviations.
     fn order(&self, other: &Value) -> Ordering
         ensures { result ≡ value_cmp self.now other.now }
     {

@@ -12,7 +12,7 @@ use std::sync::Arc;
 
 /// A board: the holder of the version to be published next.
 pub trait Board {
-    /// Which board it is.
+    /// The name of the board.
     ghost name: { Self → List ℕ };
 
     /// The entries of the version that was published last, if the board exposes them.

@@ -26,10 +26,10 @@ pub struct Directory {
     pub(crate) leases: LeaseQueue,
     /// The values of their attributes, including those of their links.
     pub(crate) index: AttributeIndex,
-    /// How many of them were live at the moment of the last entry or of the last sweep, whichever
-    /// is later.
+    /// The number of them that were live at the moment of the last entry or of the last sweep,
+    /// whichever is later.
     pub(crate) live: u64,
-    /// What those weighed together, in octets.
+    /// The weight of those together, in octets.
     pub(crate) text: u64,
     /// The count of the entries: the number counted before the first, plus one for each, raised by
     /// beginnings.
@@ -38,7 +38,7 @@ pub struct Directory {
     pub(crate) at: Moment,
     /// The last number that a record received.
     pub(crate) last_number: u64,
-    /// How many records were swept since the last entry that were live after it.
+    /// The number of records that were live after the last entry and have been swept since.
     pub(crate) swept_live: u64,
     /// The moment of the last sweep, or 0 if there was none.
     pub(crate) swept: Moment,

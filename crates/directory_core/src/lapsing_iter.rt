@@ -36,7 +36,8 @@ impl<'a> Model for LapsingIter<'a> {
     ghost view = { λ i. lapsing_left i.from.0 i.records.now i.left };
 }
 
-/// Returns the next record of these numbers that lapses after this moment.
+/// Returns the next record with one of these numbers that lapses after this moment, or `None` at
+/// the end.
 fn next_lapsing<'a, L: Ledger>(
     blank: Blank,
     records: &'a Records,

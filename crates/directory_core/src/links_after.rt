@@ -1,11 +1,13 @@
-//! What a change did to the links of a record.
+//! The effect of a change on the links of a record.
 
-/// What a change did to the links of a record. No contract can see whether two texts share one
-/// piece of memory, so the code that makes the change says it.
+/// The effect of a change on the links of a record.
+///
+/// No contract can see whether two texts share one piece of memory. So the code that makes the
+/// change reports it.
 #[derive(Clone, Copy, Debug, PartialEq, Eq)]
 pub(crate) enum LinksAfter {
-    /// They did not change, and are shared.
+    /// The links did not change, and both states of the record share them.
     Kept,
-    /// Others replace them, which may be equal to them.
+    /// Other links replace them, which may be equal to them.
     Replaced,
 }

@@ -16,9 +16,10 @@ use rd_base::{Bytes, Moment, Query, Starved, Steps};
 use std::sync::ledger::Ledger;
 
 impl Directory {
-    /// Gives a page the lines of the records that are live at this moment, in ascending number.
-    /// Goes over the carriers of the criterion that has fewest, or over all records if no criterion
-    /// is about attributes.
+    /// Adds to a page the lines of the records that are live at this moment, in ascending number.
+    ///
+    /// Visits the carriers of the criterion that has the fewest, or all records if no criterion is
+    /// about attributes.
     fn fill<L: Ledger>(
         &self,
         page: &mut Page,
@@ -44,7 +45,7 @@ impl Directory {
     }
 
     /// Returns the listing of a lookup at this moment, as [`lookup`](Directory::lookup) does, but
-    /// judges a repeated criterion as often as it stands in the query.
+    /// judges a repeated criterion as often as the query has it.
     fn look<L: Ledger>(
         &self,
         query: &Query,

@@ -17,9 +17,9 @@ use std::sync::ledger::Ledger;
 pub struct Page {
     /// Its lines, separated by commas.
     text: Bytes,
-    /// How many of the next lines to skip.
+    /// The number of the next lines that are skipped.
     skip: u64,
-    /// How many more lines it takes at most.
+    /// The most lines that it takes after those.
     most: u64,
 }
 

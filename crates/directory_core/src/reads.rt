@@ -1,5 +1,5 @@
-//! What a version says of single registrations and of the number of live ones, and its entity tag
-//! (RFC 9176 sections 5 and 6).
+//! Reads of a version: single registrations, the number of live ones, and its entity tag (RFC 9176
+//! sections 5 and 6).
 ghost use Rattle.std.specs.Prelude.{◌≡◌, ◌+◌, ◌<◌, ◌≤◌, ◌^◌, true, ℕ, List, length, find, Some};
 ghost use Rattle.std.specs.Prelude.{IfSome};
 ghost use Rattle.std.specs.Option.{option_copied};
@@ -106,7 +106,7 @@ impl Directory {
         )
     }
 
-    /// Returns the live record with this number.
+    /// Returns the record with this number, or `None` if it is not live at this moment.
     pub(crate) fn live_numbered(&self, number: u64, now: Moment) -> Option<&StoredRecord>
         ensures value { option_copied result ≡ numbered number (live_among now.0 self.now.records) }
         ensures there { IfSome result (λ kept. numbered number self.now.records ≡ Some kept.now) }
@@ -122,7 +122,7 @@ impl Directory {
         Some(kept)
     }
 
-    /// Returns the live record with this name.
+    /// Returns the record with this name that is live at this moment, or `None` if there is none.
     pub(crate) fn live_named(&self, name: &Name, now: Moment) -> Option<&StoredRecord>
         ensures value { option_copied result
             ≡ find (is_live_named name.now now.0) self.now.records }

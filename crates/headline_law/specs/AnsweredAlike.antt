@@ -67,8 +67,8 @@ abbrev pub responses_in : List (Peer × List ℕ) → List Message
 responses_in sent = filter is_response (filter_map (λ d. message_read (reading d.1)) sent)
 
 -- States that an answer has the type and the Message ID that its request wants. A confirmable
--- request is answered in the acknowledgement, which has its Message ID, and any other in a
--- non-confirmable message (RFC 7252 sections 5.2.1 and 5.2.3).
+-- request is answered in the acknowledgement, which has its Message ID. Any other request is
+-- answered in a non-confirmable message (RFC 7252 sections 5.2.1 and 5.2.3).
 abbrev pub IsOfType : Kind4 → ℕ → Message → Type 0
 IsOfType Con mid answer = (answer.kind ≡ Ack) × (answer.mid ≡ mid)
 IsOfType Non mid answer = answer.kind ≡ Non
@@ -122,7 +122,7 @@ pub record HearsWrite (r : Row) (m : Message) : Type 0 where
 
 -- ---- how an exchange begins and ends
 
--- A row that admits a write: it handles the write, which meets no refusal, and memory suffices. It
+-- A row that admits a write. It handles the write, which meets no refusal, and memory suffices. It
 -- sends nothing and notes nothing else, since the commit is to answer (RFC 7252 section 4.5).
 pub record AdmitsWrite (r : Row) (peer : Peer) (mid : ℕ) : Type 0 where
   pub request : Message
@@ -132,8 +132,8 @@ pub record AdmitsWrite (r : Row) (peer : Peer) (mid : ℕ) : Type 0 where
   pub silent : r.sent ≡ []
   pub alone : r.notes ≡ note.Admitted peer mid ∷ []
 
--- A row that ends an exchange without an answer that is stored: it commits its write, memory ran
--- out in it, and 5.00 is sent. It notes nothing else (RFC 7252 section 4.5).
+-- A row that ends an exchange without an answer that is stored. It commits the write of the
+-- exchange, memory ran out in it, and it sends 5.00. It notes nothing else (RFC 7252 section 4.5).
 pub record FailsWrite (r : Row) (place : ℕ) : Type 0 where
   pub commits : Commits r place
   pub starved : r.starved ≡ true
@@ -148,8 +148,8 @@ IsForDatagram step.Tick = ⊥
 IsForDatagram (step.Begin first) = ⊥
 IsForDatagram _ = Unit {0}
 
--- States what a step notes if memory ran out: a commit that its write failed, and any other step
--- nothing.
+-- States what a step notes if memory ran out. A commit notes that its write failed. Any other step
+-- notes nothing.
 abbrev pub NotesOutOfMemory : StepKind → List Note → Type 0
 NotesOutOfMemory (step.Commit place) notes = notes ≡ note.Failed place ∷ []
 NotesOutOfMemory _ notes = notes ≡ []
@@ -174,8 +174,8 @@ is_code_of_write code =
 abbrev pub location_named : List Opt → List (List ℕ)
 location_named options = map (λ o. o.1) (filter (λ o. o.0 == table.location_path) options)
 
--- A row that enters one registration, and an answer that names its location: `rd`, and the number
--- that the history with this entry gives it (RFC 9176 section 5).
+-- A row that enters one registration, and an answer that names its location. The location is `rd`,
+-- followed by the number that the history with this entry gives it (RFC 9176 section 5).
 pub record NamesEntry (here : Placed) (answer : Message) : Type 0 where
   pub entry : Entry
   pub params : RegParams

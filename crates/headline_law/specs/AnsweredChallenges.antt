@@ -1,4 +1,4 @@
--- Simple registrations that answered a challenge: their peer proved that it receives at its address
+-- Simple registrations that answered a challenge. Their peer proved that it receives at its address
 -- and port (RFC 9176 section 5.1, RFC 9175 sections 2.3 and 2.6).
 use Rattle.std.specs.Prelude.{◌≡◌, true, ℕ, List, Some, Ok}
 use Rattle.rd_base.specs.declared.peers.Peer.{Peer}
@@ -26,7 +26,7 @@ pub record ShowsAddress (p : Placed) : Type 0 where
   pub echo : echo_in message ≡ Some value
   pub good : is_good p.row.moment.0 p.row.step.peer value (events p.before) ≡ true
 
--- An earlier row that admitted such a registration of a peer: the same address and port.
+-- An earlier row that admitted such a registration of a peer, from the same address and port.
 pub record ShownBefore (before : List Row) (peer : Peer) : Type 0 where
   pub shown : Placed
   pub within : Within before shown.before shown.row

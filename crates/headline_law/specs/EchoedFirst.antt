@@ -1,4 +1,4 @@
--- A sentence of the headline, about Echo: the directory sends a request only to a peer that
+-- A sentence of the headline, about Echo. The directory sends a request only to a peer that
 -- answered a challenge (RFC 9176 section 5.1, RFC 9175 sections 2.3 and 2.6).
 use Rattle.std.specs.Prelude.{◌≡◌, true, ℕ, Bool, List, [], ◌∷◌, Option, Ok}
 use Rattle.std.specs.List.{IsAmong}
@@ -22,13 +22,13 @@ use Rattle.journal_model.specs.PlacedRows.{Within}
 use Rattle.journal_model.specs.CarriedBlocks.{Sent}
 use Rattle.headline_law.specs.AnsweredChallenges.{ShownBefore}
 
--- Returns whether the code of a message is one of a method: GET has 0.01, and no code of a request
--- is greater than 0.31 (RFC 7252 sections 5.8 and 12.1).
+-- Returns whether the code of a message is a method code. GET has 0.01, and no code of a request is
+-- greater than 0.31 (RFC 7252 sections 5.8 and 12.1).
 abbrev pub is_request : Message → Bool
 is_request m = codes_of.is_request_code m.code
 
--- Octets that spell the request of a fetch: a confirmable GET of `/.well-known/core`, with no
--- further option except Block2 (RFC 9176 section 5.1).
+-- Octets that encode the request of a fetch. It is a confirmable GET of `/.well-known/core`, with
+-- no further option except Block2 (RFC 9176 section 5.1).
 pub record IsFetchRequest (octets : List ℕ) : Type 0 where
   pub mid : ℕ
   pub token : List ℕ
@@ -44,8 +44,9 @@ pub record SendsEcho (r : Row) (peer : Peer) (value : List ℕ) : Type 0 where
   pub code : message.code ≡ codes_of.unauthorized
   pub options : message.options ≡ (table.echo, value) ∷ []
 
--- A row that challenges a peer by a value: it handles a simple registration of that peer, and sends
--- it the value. This is the word that was passed in, and then how many challenges were made before.
+-- A row that challenges a peer by a value. It handles a simple registration of that peer, and sends
+-- it the value. The value consists of the random word of the step and the number of challenges made
+-- before.
 pub record IsChallenge (before : List Row) (r : Row) (peer : Peer) (value : List ℕ) : Type 0 where
   pub heard : r.step.kind ≡ step.Admit
   pub message : Message
@@ -62,17 +63,18 @@ pub record EchoedFirst (rows : List Row) : Type 0 where
   pub method : (sent : Sent rows)
       → is_request sent.message ≡ true
       → sent.message.code ≡ codes_of.get
-  -- It asks for the links of a device, and for nothing else (RFC 9176 section 5.1).
+  -- It requests the links of a device, and nothing else (RFC 9176 section 5.1).
   pub fetches : (sent : Sent rows)
       → is_request sent.message ≡ true
       → IsFetchRequest sent.octets
-  -- It goes to an address and port from which an earlier row admitted a simple registration that
-  -- answered the last challenge sent there (RFC 9175 section 2.6).
+  -- It goes to an address and port from which an earlier row admitted a simple registration. That
+  -- registration answered the last challenge sent there (RFC 9175 section 2.6).
   pub shown : (sent : Sent rows)
       → is_request sent.message ≡ true
       → ShownBefore sent.here.before sent.peer
   -- Each challenge that is noted is sent to its peer, in answer to a simple registration. Its value
-  -- is the word of the row and the number of challenges before it (RFC 9175 section 2.3).
+  -- consists of the random word of the row and the number of challenges before it (RFC 9175 section
+  -- 2.3).
   pub challenged : (before : List Row) (r : Row) (peer : Peer) (value : List ℕ)
       → Within rows before r
       → IsAmong r.notes (note.Challenged peer value)

@@ -1,5 +1,5 @@
--- A sentence of the headline, about kept answers: a later block is read only from one that is
--- young, and among those that were used last (RFC 7959 section 2.4).
+-- A sentence of the headline, about kept answers. A later block is read only from a kept answer
+-- that is young, and among those that were used last (RFC 7959 section 2.4).
 use Rattle.std.specs.Prelude.{◌≡◌, true, ℕ, ◌+◌, ◌<◌, List, Option, Some, Ok, take}
 use Rattle.std.specs.List.{list_any, IsAmong}
 use Rattle.rd_base.specs.declared.peers.Peer.{Peer}
@@ -19,7 +19,8 @@ use Rattle.journal_model.specs.Requests.{is_later_block}
 use Rattle.journal_model.specs.PlacedRows.{Within, Placed, last_row}
 use Rattle.journal_model.specs.BodyFormers.{last_kept}
 
--- Returns the last row that used the kept answer of a name: it kept one, or read it.
+-- Returns the last row that used the kept answer of a name, if there is one. The row kept such an
+-- answer, or read it.
 abbrev pub last_use : RequestName → List Row → Option Placed
 last_use name rows = last_row (λ r. list_any (is_use_of name) r.notes) rows
 

@@ -1,5 +1,5 @@
--- Sentences of the headline that are claims of any journal by themselves, a file each (RFC 7252,
--- RFC 7959, RFC 9175, RFC 9176).
+-- The sentences of the headline that are claims about any journal by themselves, one in each file
+-- (RFC 7252, RFC 7959, RFC 9175, RFC 9176).
 
 -- The moment of a row is the greatest that was passed in so far.
 pub mod Moments
@@ -11,13 +11,13 @@ pub mod NothingInvented
 pub mod KeptAnswers
 -- The directory sends a request only if a challenge was answered.
 pub mod EchoedFirst
--- Who is sent to: requests of the directory, Resets and empty acknowledgements (RFC 7252 sections
--- 4.2 and 5.2.2, RFC 9176 section 5.1).
+-- The recipients of requests of the directory, of Resets and of empty acknowledgements (RFC 7252
+-- sections 4.2 and 5.2.2, RFC 9176 section 5.1).
 pub mod SentToWhom
--- The answers to writes: once, as the request wants it, and the same to a duplicate (RFC 7252
--- sections 4.5 and 5.2, RFC 9176 section 5).
+-- The answers to writes. A write is answered once, as the request wants it, and a duplicate gets
+-- the same answer (RFC 7252 sections 4.5 and 5.2, RFC 9176 section 5).
 pub mod AnsweredAlike
--- Who observes: a response that carries Observe makes an observer, which ends only for a reason
+-- The observers. A response that carries Observe makes an observer, which ends only for a reason
 -- (RFC 7641 sections 3.1, 3.6, 4.1 and 4.5).
 pub mod ObserversStand
 -- All of these sentences, and the five of `journal_model`.

@@ -34,8 +34,8 @@ use Rattle.journal_model.specs.AdmittedWrites.{AdmittedAt}
 use Rattle.headline_law.specs.AnsweredChallenges.{ShowsAddress}
 
 -- A row that commits a simple registration that answered its challenge, and has this peer and these
--- parameters. The token is that of no earlier fetch: the number of fetches with this one. No fetch
--- with the peer runs, and there is room for one more.
+-- parameters. The token is the number of fetches with this one, so no earlier fetch has it. No
+-- fetch with the peer runs, and there is room for one more.
 pub record StartsFor (before : List Row) (r : Row) (peer : Peer) (token : List ℕ)
     (params : RegParams) : Type 0 where
   pub admission : Placed
@@ -60,9 +60,9 @@ abbrev pub gathers_from : Peer → Note → Bool
 gathers_from peer (note.Gathered p octets tag) = is_same_peer p peer
 gathers_from peer _ = false
 
--- A step that handles a response to the last request of the running fetch with this peer, which has
--- this token and these parameters. The response brings a block that more follow, and this is the
--- number of the next.
+-- A step that handles a response to the last request of the running fetch with this peer. That
+-- request has this token and these parameters. The response brings a block that more blocks follow,
+-- and this is the number of the next.
 pub record GoesOnWith (before : List Row) (s : Step) (peer : Peer) (token : List ℕ)
     (params : RegParams) (number : ℕ) : Type 0 where
   pub answers : AnswersFetch before s
@@ -75,8 +75,8 @@ pub record GoesOnWith (before : List Row) (s : Step) (peer : Peer) (token : List
   pub next : number ≡ block.num + 1
 
 -- A row that commits a write of this peer that an earlier row admitted. Its request has this key,
--- and its payload is the block with this number. The block begins where what is collected ends, and
--- more follow.
+-- and its payload is the block with this number. The block begins where the collected octets end,
+-- and more blocks follow.
 pub record CameInWrite (before : List Row) (r : Row) (peer : Peer) (key : List ℕ) (number : ℕ)
     (octets : List ℕ) : Type 0 where
   pub place : ℕ
@@ -92,9 +92,9 @@ pub record CameInWrite (before : List Row) (r : Row) (peer : Peer) (key : List �
   pub joins : IsCollected (Some block) before r.moment.0 r.step admitted.message collected
   pub octets_are : octets ≡ admitted.message.payload
 
--- A step that handles a response to the last request of the running fetch with this peer. These are
--- its payload, which begins where what is collected ends, and its entity tag. Nothing in it ends
--- the fetch, and more follow.
+-- A step that handles a response to the last request of the running fetch with this peer. The
+-- response has this payload, which begins where the collected octets end, and this entity tag.
+-- Nothing in it ends the fetch, and more blocks follow.
 pub record CameInResponse (before : List Row) (s : Step) (peer : Peer) (octets : List ℕ)
     (tag : Option (List ℕ)) : Type 0 where
   pub answers : AnswersFetch before s
@@ -110,15 +110,15 @@ pub record CameInResponse (before : List Row) (s : Step) (peer : Peer) (octets :
 
 -- The sentence: nothing is invented. What is fetched was requested, and what is collected arrived.
 pub record NothingInvented (rows : List Row) : Type 0 where
-  -- A fetch starts only if a simple registration is committed that answered its challenge (RFC 9176
-  -- section 5.1).
+  -- A fetch starts only in the row that commits a simple registration that answered its challenge
+  -- (RFC 9176 section 5.1).
   pub starts : (before : List Row) (r : Row) (peer : Peer) (token : List ℕ) (mid : ℕ)
       (params : RegParams)
       → Within rows before r
       → IsAmong r.notes (note.Asked peer token mid params 0)
       → StartsFor before r peer token params
-  -- It continues only if a response to its last request brought a block that more follow, and
-  -- requests the next one (RFC 7959 section 2.4).
+  -- A fetch continues only if a response to its last request brought a block that more blocks
+  -- follow. It then requests the next block (RFC 7959 section 2.4).
   pub goes_on : (before : List Row) (r : Row) (peer : Peer) (token : List ℕ) (mid : ℕ)
       (params : RegParams) (number : ℕ)
       → Within rows before r

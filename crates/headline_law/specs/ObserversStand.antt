@@ -1,4 +1,4 @@
--- A sentence of the headline, about who observes. A response that carries Observe makes its peer an
+-- A sentence of the headline, about observers. A response that carries Observe makes its peer an
 -- observer of what it requested, and an observer ends only for a reason.
 use Rattle.std.specs.Prelude.{
   ◌≡◌,
@@ -49,8 +49,8 @@ use Rattle.journal_model.specs.SentDatagrams.{is_response}
 
 -- ---- requests
 
--- A step that handles a lookup of a first block that meets no refusal, and whose Observe value
--- begins or ends an observation (RFC 7641 sections 2 and 4.1).
+-- A step that handles a lookup of a first block that meets no refusal. The Observe value of the
+-- lookup begins or ends an observation (RFC 7641 sections 2 and 4.1).
 pub record AsksOfObservation (s : Step) (request : Message) : Type 0 where
   pub heard : s.kind ≡ step.Admit
   pub read : reading s.datagram ≡ Ok request
@@ -67,8 +67,8 @@ abbrev pub carries_observe : Message → Bool
 carries_observe m = stands_in table.observe m.options
 
 -- A response whose row handles a lookup with Observe 0. After that row there is an observer with
--- the peer and the token of the response. It is the one that the request asks to be: of its query
--- and its block size (RFC 7641 sections 3.1 and 4.1).
+-- the peer and the token of the response. Its query and its block size are those of the request
+-- (RFC 7641 sections 3.1 and 4.1).
 pub record MakesObserver (here : Placed) (peer : Peer) (answer : Message) : Type 0 where
   pub request : Message
   pub asks : AsksOfObservation here.row.step request
@@ -76,16 +76,16 @@ pub record MakesObserver (here : Placed) (peer : Peer) (answer : Message) : Type
   pub stands : observer_named (peer, answer.token) (here.row ∷ here.before)
       ≡ Some (observer_of here.row.step request)
 
--- States that a response which carries Observe makes an observer. Of notifications SendsToWhoAsked
--- says that they go to observers.
+-- States that a response that carries Observe makes an observer. It says nothing of ticks, whose
+-- responses are notifications. SendsToWhoAsked says that these go to observers.
 abbrev pub ObservesSo : StepKind → Placed → Peer → Message → Type 0
 ObservesSo step.Tick here peer answer = Unit {0}
 ObservesSo _ here peer answer = MakesObserver here peer answer
 
 -- ---- how an observer ends
 
--- An observer whose peer asks again with its token, to observe anew or no more, in a row in which
--- memory did not run out (RFC 7641 sections 3.6 and 4.1).
+-- An observer whose peer sends another request with its token, to observe anew or to stop. Memory
+-- did not run out in the row of that request (RFC 7641 sections 3.6 and 4.1).
 pub record AsksAnew (r : Row) (o : Observer) : Type 0 where
   pub request : Message
   pub asks : AsksOfObservation r.step request
@@ -104,7 +104,7 @@ pub record RejectsNotification (before : List Row) (r : Row) (o : Observer) : Ty
   pub flies : flight o (events before) ≡ Some notification
   pub mid : message.mid ≡ notification.mid
 
--- An observer whose notification in flight was retransmitted as often as may be, and whose last
+-- An observer whose notification in flight was retransmitted as often as allowed, and whose last
 -- timeout has ended (RFC 7252 section 4.2, RFC 7641 section 4.5).
 pub record NeverAcknowledges (before : List Row) (r : Row) (o : Observer) : Type 0 where
   pub ticks : r.step.kind ≡ step.Tick

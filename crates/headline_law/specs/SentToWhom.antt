@@ -1,6 +1,6 @@
--- A sentence of the headline, about those to whom the directory writes unasked or without a
--- response. A request goes only to the peer of a fetch that runs. A Reset or an empty
--- acknowledgement goes only to the sender of the message that it answers.
+-- A sentence of the headline, about the recipients of what the directory sends except responses. A
+-- request goes only to the peer of a fetch that runs. A Reset or an empty acknowledgement goes only
+-- to the sender of the message that it answers.
 use Rattle.std.specs.Prelude.{
   ◌≡◌,
   ◌⊎◌,
@@ -48,24 +48,24 @@ use Rattle.journal_model.specs.Responses.{fetch_of}
 
 -- ---- requests
 
--- Returns whether a note says that the fetch of a peer requests the block with a number, with the
--- token and the Message ID of a message.
+-- Returns whether a note says that the fetch of a peer requests the block with a number. The
+-- request has the token and the Message ID of a message.
 abbrev pub is_asking : Peer → Message → ℕ → Note → Bool
 is_asking peer m number (note.Asked p token mid params n) =
     is_same_peer p peer && bytes_eq token m.token && mid == m.mid && n == number
 is_asking peer m number _ = false
 
--- A row that requests the device's own links: its fetch of that peer runs. The request is a GET of
--- `/.well-known/core` for the block, and with the token and the Message ID, that the row notes (RFC
--- 9176 section 5.1, RFC 7959 section 2.4).
+-- A row that requests the device's own links, while its fetch of that peer runs. The request is a
+-- GET of `/.well-known/core`. Its block, its token and its Message ID are those that the row notes
+-- (RFC 9176 section 5.1, RFC 7959 section 2.4).
 pub record AsksOfFetch (here : Placed) (peer : Peer) (m : Message) : Type 0 where
   pub block : Option Block
   pub request : m ≡ fetch_request m.mid m.token block
   pub noted : list_any (is_asking peer m (number_of block)) here.row.notes ≡ true
   pub runs : is_fetching peer (events (here.row ∷ here.before)) ≡ true
 
--- A tick that retransmits what the row sent to that peer that made its last request, while the
--- fetch runs (RFC 7252 section 4.2).
+-- A tick that retransmits octets to a peer while its fetch runs. The row that made the last request
+-- to that peer sent it the same octets (RFC 7252 section 4.2).
 pub record AsksAgain (here : Placed) (peer : Peer) (octets : List ℕ) : Type 0 where
   pub ticks : here.row.step.kind ≡ step.Tick
   pub runs : is_fetching peer (events here.before) ≡ true
@@ -80,8 +80,8 @@ abbrev pub is_con : Kind4 → Bool
 is_con Con = true
 is_con _ = false
 
--- Returns whether a message wants an acknowledgement and nothing else: it is a response to the last
--- request of the running fetch with its sender (RFC 7252 section 5.2.2).
+-- Returns whether a message wants an acknowledgement and nothing else. Such a message is a response
+-- to the last request of the running fetch with its sender (RFC 7252 section 5.2.2).
 abbrev pub is_response_for : List Row → Step → Message → Role → Bool
 is_response_for before s m role.Response = is_some (fetch_of s m (events before))
 is_response_for before s m _ = false
@@ -99,24 +99,24 @@ is_acknowledged before s mid (Err fault) = false
 is_acknowledged before s mid (Ok m) =
     is_con m.kind && m.mid == mid && is_response_for before s m (role_of m.kind m.code)
 
--- Returns whether the message in a datagram is confirmable, and is rejected with a Message ID. So
--- is a confirmable one with a format error (RFC 7252 section 4.2).
+-- Returns whether the message in a datagram is confirmable, and is rejected with a Message ID. A
+-- confirmable message with a format error is rejected too (RFC 7252 section 4.2).
 abbrev pub is_rejected : List Row → Step → ℕ → Result Message Unread → Bool
 is_rejected before s mid (Err (unread.Format Con m)) = m == mid
 is_rejected before s mid (Err _) = false
 is_rejected before s mid (Ok m) =
     is_con m.kind && m.mid == mid && is_out_of_place before s m (role_of m.kind m.code)
 
--- A Reset, which goes to the sender of the datagram that its row handled, and has its Message ID.
--- That message is rejected.
+-- A Reset that goes to the sender of the datagram that its row handled, and has the Message ID of
+-- that message. That message is rejected.
 pub record Rejects (here : Placed) (peer : Peer) (m : Message) : Type 0 where
   pub heard : here.row.step.kind ≡ step.Admit
   pub to : peer ≡ here.row.step.peer
   pub rejected :
       is_rejected here.before here.row.step m.mid (reading here.row.step.datagram) ≡ true
 
--- An empty acknowledgement, which goes to the sender of the datagram that its row handled, and has
--- its Message ID. That message is acknowledged.
+-- An empty acknowledgement that goes to the sender of the datagram that its row handled, and has
+-- the Message ID of that message. That message is acknowledged.
 pub record Acknowledges (here : Placed) (peer : Peer) (m : Message) : Type 0 where
   pub heard : here.row.step.kind ≡ step.Admit
   pub to : peer ≡ here.row.step.peer
@@ -125,8 +125,8 @@ pub record Acknowledges (here : Placed) (peer : Peer) (m : Message) : Type 0 whe
 
 -- ---- the sentence
 
--- States that a message with this role goes only where it may. No ping is sent, and nothing that is
--- ignored. SendsToWhoAsked is about responses.
+-- States that a message with this role goes only where it may. The directory sends no ping, and no
+-- message that receivers ignore. SendsToWhoAsked is about responses.
 abbrev pub GoesToWhom : Role → Placed → Peer → List ℕ → Message → Type 0
 GoesToWhom role.Ping here peer octets m = ⊥
 GoesToWhom role.Acknowledgement here peer octets m = Acknowledges here peer m

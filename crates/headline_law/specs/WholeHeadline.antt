@@ -1,5 +1,5 @@
--- The whole headline: the five sentences of `journal_model`, and those that make each of them a
--- claim about any journal by itself (RFC 7252, RFC 7641, RFC 7959, RFC 9175, RFC 9176).
+-- The whole headline: the five sentences of `journal_model`, and seven more. These make each of the
+-- five a claim about any journal by itself (RFC 7252, RFC 7641, RFC 7959, RFC 9175, RFC 9176).
 use Rattle.std.specs.Prelude.{List}
 use Rattle.journal_model.specs.declared.rows.Row.{Row}
 use Rattle.journal_model.specs.Headline.{Headline, DeskHeadline}
@@ -23,8 +23,8 @@ pub record WholeHeadline (rows : List Row) : Type 0 where
   pub whom : SentToWhom rows
   pub echo : EchoedFirst rows
 
--- What holds of every journal of a desk. The sentences about the answers to writes, about who
--- observes and about to whom it sends have a condition. Each look, commit and keep is made for a
+-- What holds of every journal of a desk. Three sentences have a condition: those about the answers
+-- to writes, about observers, and about recipients. Each look, commit and keep is made for a
 -- request, and each keep has a tag of eight octets.
 pub record WholeDeskHeadline (rows : List Row) : Type 0 where
   pub five : DeskHeadline rows

@@ -1,5 +1,5 @@
--- What the contracts say beyond link_model: the points of the grammar, octets due in UTF-8, cuts,
--- parts, and the views of links.
+-- The definitions of the contracts beyond link_model: points of the grammar, octets due in UTF-8,
+-- cuts, parts, and the views of links.
 pub mod Points
 pub mod Ranges
 pub mod Staying

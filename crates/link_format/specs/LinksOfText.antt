@@ -3,28 +3,29 @@ use Rattle.std.specs.Prelude.{ℕ, List, [], ◌∷◌, Option, Some, None, opti
 use Rattle.link_model.specs.Documents.{Parameter, Link}
 use Rattle.link_model.specs.DocumentReading.{at_beginning, after_part, links_from}
 
--- the list, and the empty one where there is none
+-- Returns the list, or the empty list if there is none.
 abbrev pub listed : {A : Type 0} → Option (List A) → List A
 listed None = []
 listed (Some items) = items
 
--- the links that a text spells, and None where it spells none
+-- Returns the links that a text spells, or `None` if it does not spell a list of links.
 abbrev pub links_of : List ℕ → Option (List Link)
 links_of text = links_from at_beginning text
 
--- the links of a text
+-- Returns the links of a text, or the empty list if it does not spell a list of links.
 abbrev pub links_in : List ℕ → List Link
 links_in text = listed (links_of text)
 
--- the parameters of a single link
+-- Returns the parameters of a single link, or `None` if there is not exactly one link.
 abbrev pub lone_parameters : List Link → Option (List Parameter)
 lone_parameters (l ∷ []) = Some l.parameters
 lone_parameters _ = None
 
--- the parameters that a text after a target spells, and None where it spells none
+-- Returns the parameters that a text after a target spells, or `None` if it does not spell a list
+-- of parameters.
 unfoldable pub parameters_of : List ℕ → Option (List Parameter)
 parameters_of text = option_and_then lone_parameters (links_from after_part text)
 
--- the parameters of a text after a target
+-- Returns the parameters of a text after a target, or the empty list if it spells no such list.
 abbrev pub parameters_in : List ℕ → List Parameter
 parameters_in text = listed (parameters_of text)

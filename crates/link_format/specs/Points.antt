@@ -1,9 +1,9 @@
--- The points of the grammar, as the code names them.
+-- The points of the grammar, under the names that the code gives them.
 use Rattle.link_format.specs.declared.points.Point.{Point}
 use Rattle.link_format.specs.declared.points.Point.TheVariants as code
 use Rattle.link_model.specs.DocumentReading as grammar
 
--- the point of the grammar that the code names so
+-- Returns the point of the grammar to which the code gives this name.
 abbrev pub point_in : Point → grammar.Point
 point_in code.Beginning = grammar.at_beginning
 point_in code.Link = grammar.at_link

@@ -4,13 +4,15 @@ use Rattle.std.specs.Prelude.{◌≡◌, ⊤, ℕ, List, [], ◌∷◌, ◌++◌
 use Rattle.link_model.specs.DocumentReading.{Point, point_after}
 use Rattle.link_format.specs.Ranges.{tails_after}
 
--- each may stand at the point, leaves it as it is, and is a character of its own
+-- States that each octet is allowed at the point, leaves the reader there, and is a character of
+-- its own.
 abbrev pub AllStay : Point → List ℕ → Type 0
 AllStay point [] = ⊤
 AllStay point (b ∷ bs) =
     (point_after point b ≡ Some point) × (tails_after [] b ≡ Some []) × AllStay point bs
 
--- these are left of octets, where all before them stay
+-- States that `rest` is what follows some octets at the beginning that all leave the reader at the
+-- point.
 pub record StaysUpTo (point : Point) (octets rest : List ℕ) : Type 0 where
   pub over : List ℕ
   pub spelled : octets ≡ over ++ rest

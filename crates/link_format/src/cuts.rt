@@ -1,15 +1,15 @@
-//! Quoted strings within a text, and its first octet of a kind outside them (RFC 6690 section 2).
+//! Cuts of a text at the first separator outside quoted strings (RFC 6690 section 2).
 ghost use Rattle.std.specs.Prelude.{◌≡◌, ℕ, ◌≤◌, ◌<◌, ◌+◌, length, drop, option_map};
 ghost use Rattle.link_format.specs.declared.cuts.Quotes.TheVariants.{Unread, Leading};
 ghost use Rattle.link_format.specs.declared.cuts.Quotes.TheVariants.{Outside, Inside};
 ghost use Rattle.link_format.specs.Cuts as cuts;
 
-/// How a text is read: where it stands to quoted strings.
+/// The state of a reader with respect to quoted strings.
 #[derive(Clone, Copy, Debug, PartialEq, Eq)]
 pub enum Quotes {
-    /// Quotation marks mean nothing.
+    /// Quotation marks have no meaning.
     Unread,
-    /// Before the first octet, which is no separator and no quotation mark.
+    /// Before the first octet, which counts neither as a separator nor as a quotation mark.
     Leading,
     /// Outside quoted strings.
     Outside,
@@ -19,7 +19,7 @@ pub enum Quotes {
     Escaped,
 }
 
-/// What stands after the first octet of a text, and nothing where it has none.
+/// Returns the text after its first octet, or an empty text if it has none.
 fn after_octet(text: &[u8]) -> &[u8]
     ensures { result.now ≡ drop 1 text.now }
 {
@@ -29,8 +29,8 @@ fn after_octet(text: &[u8]) -> &[u8]
     }
 }
 
-/// What stands after a quoted string in which the text begins, and nothing where no quote closes
-/// it.
+/// Returns what follows the quoted string in which the text begins. Returns an empty text if no
+/// quote closes that string.
 fn after_quotes(text: &[u8]) -> &[u8]
     ensures within { length result.now ≤ length text.now }
     ensures counted { (separator : ℕ)
@@ -51,7 +51,8 @@ fn after_quotes(text: &[u8]) -> &[u8]
     rest
 }
 
-/// How many octets stand before the first separator, where quotation marks mean nothing.
+/// Returns the number of octets before the first separator, or of all octets if there is none.
+/// Quotation marks have no meaning.
 fn octets_before_unread(separator: u8, text: &[u8]) -> usize
     ensures value { result ≡ cuts.octets_before separator Unread text.now }
     ensures within { result ≤ length text.now }
@@ -66,8 +67,8 @@ fn octets_before_unread(separator: u8, text: &[u8]) -> usize
     text.len()
 }
 
-/// How many octets of a text stand before the first separator in a rest of it, which begins outside
-/// quoted strings.
+/// Returns the number of octets of `text` before the first separator in `outside`, or of all octets
+/// if there is none. `outside` is the rest of `text` and begins outside quoted strings.
 fn octets_before_outside(separator: u8, text: &[u8], outside: &[u8]) -> usize
     requires { length outside.now ≤ length text.now }
     ensures value { result + length outside.now
@@ -88,8 +89,8 @@ fn octets_before_outside(separator: u8, text: &[u8], outside: &[u8]) -> usize
     text.len()
 }
 
-/// How many octets stand before the first separator, where the first octet is none and begins no
-/// quoted string.
+/// Returns the number of octets before the first separator, or of all octets if there is none. The
+/// first octet neither is a separator nor begins a quoted string.
 fn octets_before_leading(separator: u8, text: &[u8]) -> usize
     ensures value { result ≡ cuts.octets_before separator Leading text.now }
     ensures within { result ≤ length text.now }
@@ -97,7 +98,7 @@ fn octets_before_leading(separator: u8, text: &[u8]) -> usize
     octets_before_outside(separator, text, after_octet(text))
 }
 
-/// How many octets stand before the first separator, and all where there is none.
+/// Returns the number of octets before the first separator, or of all octets if there is none.
 fn octets_before(separator: u8, quotes: Quotes, text: &[u8]) -> usize
     ensures value { result ≡ cuts.octets_before separator quotes text.now }
     ensures within { result ≤ length text.now }
@@ -111,7 +112,7 @@ fn octets_before(separator: u8, quotes: Quotes, text: &[u8]) -> usize
     }
 }
 
-/// What stands before the first separator, and what stands after it where there is one.
+/// Returns the text before the first separator, and the text after it if there is one.
 pub fn cut(separator: u8, quotes: Quotes, text: &str) -> (&str, Option<&str>)
     requires { separator < 128 }
     ensures before { result.0.now ≡ (cuts.cut separator quotes text.now).0 }
@@ -125,7 +126,8 @@ pub fn cut(separator: u8, quotes: Quotes, text: &str) -> (&str, Option<&str>)
     (&text[..at], Some(&text[at + 1..]))
 }
 
-/// What stands before the first separator, and what stands from it on.
+/// Returns the text before the first separator, and the text from that separator on. The second
+/// text is empty if there is no separator.
 pub fn split(separator: u8, quotes: Quotes, text: &str) -> (&str, &str)
     requires { separator < 128 }
     ensures before { result.0.now ≡ (cuts.cut separator quotes text.now).0 }

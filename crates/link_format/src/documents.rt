@@ -1,4 +1,4 @@
-//! Whether a body is a link document (RFC 6690 section 2).
+//! The check whether a body is a link document (RFC 6690 section 2).
 ghost use Rattle.std.specs.Prelude.{◌≡◌, List, IfOk, IfErr, IsOkAnd, Some, None};
 ghost use Rattle.link_model.specs.Documents.{Link, IsDocument, IsGoodPrefix};
 ghost use Rattle.link_model.specs.DocumentReading.{document, good_prefix};
@@ -6,16 +6,16 @@ ghost use Rattle.link_model.specs.DocumentReading.{document, good_prefix};
 use crate::links::{Links, links_of_text};
 use crate::reach::walk;
 
-/// The octets are no document.
+/// The error for octets that are no link document.
 #[derive(Clone, Copy, Debug, PartialEq, Eq)]
 pub struct LinkBad {
-    /// The length of the longest prefix that begins some document, in octets. It may lie within a
-    /// character that is cut off.
+    /// The length of the longest prefix that begins some document, in octets. The prefix may end
+    /// within a UTF-8 character.
     pub at: usize,
 }
 
-/// What one walk over a body finds: its links, or the offset at which it stops being the beginning
-/// of a document.
+/// Returns the links of a body, which it finds in one walk. If the body is no document, returns the
+/// length of the longest prefix that begins one.
 fn read(body: &[u8]) -> Result<Links<'_>, LinkBad>
     ensures ok { IfOk result (λ links. document body.now ≡ Some links) }
     ensures refused { IfErr result (λ bad. document body.now ≡ None) }
@@ -27,17 +27,20 @@ fn read(body: &[u8]) -> Result<Links<'_>, LinkBad>
             at: reach.good_prefix,
         });
     }
-    // The walk has read the body as UTF-8, which is proved here, so it is not read again.
+    // The walk has checked that the body is UTF-8, which is proved here. So it is not checked
+    // again.
     let text = unsafe { str::from_utf8_unchecked(body) };
     Ok(links_of_text(text))
 }
 
-/// The links of a body, which is UTF-8 as a whole and spells a document, or the offset at which it
-/// stops being the beginning of one (RFC 6690 section 2). Takes no memory.
+/// Returns the links of a body that is a link document (RFC 6690 section 2). Does not allocate.
+///
+/// A document is UTF-8 as a whole.
 ///
 /// # Errors
 ///
-/// `LinkBad` exactly where the body is no document.
+/// `LinkBad` exactly if the body is no link document. It has the length of the longest prefix that
+/// begins one.
 pub fn check(body: &[u8]) -> Result<Links<'_>, LinkBad>
     ensures found { IfOk result (λ links. IsDocument body.now links) }
     ensures only { (links : List Link)

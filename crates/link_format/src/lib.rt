@@ -1,5 +1,5 @@
-//! Link documents: checked, walked link by link and parameter by parameter, and their values (RFC
-//! 6690).
+//! Link documents (RFC 6690): checks of them, iterators over their links and parameters, and the
+//! values of parameters.
 #![tactic(auto)]
 
 mod characters;

@@ -10,15 +10,15 @@ use std::marker::Model;
 /// link-value).
 #[derive(Clone, Copy, Debug)]
 pub struct LinkRef<'a> {
-    /// What stands between `<` and `>`.
+    /// The text between `<` and `>`.
     pub target: &'a str,
-    /// The parameters, each from its semicolon on.
+    /// The text of the parameters, each from its semicolon on.
     pub params: &'a str,
     ghost readable: { is_some (parameters_of params.now) ≡ true },
 }
 
-/// The links that are left of a document that [`check`](crate::check) read, in order. A contract
-/// sees them as their list.
+/// An iterator over the links of a document, in order, as [`check`](crate::check) returns it.
+/// Contracts see it as the list of the links that are left.
 #[derive(Clone, Debug, Drop)]
 pub struct Links<'a> {
     rest: &'a str,
@@ -36,7 +36,7 @@ impl<'a> Model for Links<'a> {
     ghost invariant = { λ links. is_some (links_of links.rest.now) ≡ true };
 }
 
-/// The links of a text that spells some.
+/// Returns an iterator over the links of a text that spells a list of links.
 pub fn links_of_text(text: &str) -> Links<'_>
     requires { is_some (links_of text.now) ≡ true }
     ensures { result ≡ links_in text.now }
@@ -61,7 +61,7 @@ impl<'a> Iterator for Links<'a> {
     }
 }
 
-/// The parameters of a link, in order. Takes no memory.
+/// Returns an iterator over the parameters of a link, in order. Does not allocate.
 pub fn params<'a>(link: &LinkRef<'a>) -> Params<'a>
     ensures { result ≡ parameters_in link.now.params.now }
 {

@@ -9,9 +9,9 @@ use std::marker::Model;
 /// A parameter of a link (RFC 6690 section 2, link-param).
 #[derive(Clone, Copy, Debug)]
 pub struct Param<'a> {
-    /// Its name.
+    /// The name.
     pub name: &'a str,
-    /// Its value as it is spelled, with its quotes, where it has one.
+    /// The value as it is spelled, with its quotes, if there is one.
     pub value: Option<&'a str>,
     /// The whole parameter from its semicolon on.
     pub raw: &'a str,
@@ -20,8 +20,8 @@ pub struct Param<'a> {
         (record { name = name.now; value = option_map (λ text. text.now) value }) },
 }
 
-/// The parameters that are left of a link, in order, as [`params`](crate::params) begins them. A
-/// contract sees them as their list.
+/// An iterator over the parameters of a link, in order, as [`params`](crate::params) returns it.
+/// Contracts see it as the list of the parameters that are left.
 #[derive(Clone, Debug, Drop)]
 pub struct Params<'a> {
     rest: &'a str,
@@ -39,7 +39,7 @@ impl<'a> Model for Params<'a> {
     ghost invariant = { λ params. is_some (parameters_of params.rest.now) ≡ true };
 }
 
-/// The parameters of a text that spells some.
+/// Returns an iterator over the parameters of a text that spells a list of parameters.
 pub fn params_of_text(text: &str) -> Params<'_>
     requires { is_some (parameters_of text.now) ≡ true }
     ensures { result ≡ parameters_in text.now }

@@ -1,11 +1,12 @@
-//! The first link of a document, and the first parameter of a link, in their parts (RFC 6690
+//! The parts of the first link of a document, and of the first parameter of a link (RFC 6690
 //! section 2).
 ghost use Rattle.std.specs.Prelude.{◌≡◌, option_map};
 ghost use Rattle.link_format.specs.Parts as parts;
 
 use crate::cuts::{Quotes, cut, split};
 
-/// The target of the first link, its parameters, and the links after its comma.
+/// Returns the target of the first link, its parameters, and the links after its comma. Returns
+/// `None` if the text has no target between `<` and `>`.
 #[tactic(auto, unfolding(crate::specs::Parts::link_parts))]
 pub fn link_parts(text: &str) -> Option<(&str, &str, &str)>
     ensures { option_map (λ p. (p.0.now, p.1.now, p.2.now)) result ≡ parts.link_parts text.now }
@@ -16,7 +17,8 @@ pub fn link_parts(text: &str) -> Option<(&str, &str, &str)>
     Some((target, params, further.unwrap_or("")))
 }
 
-/// The first parameter whole, its name, its value, and the parameters after it.
+/// Returns the whole first parameter, its name, its value if there is one, and the parameters after
+/// it. Returns `None` if that parameter has no semicolon, as in an empty text.
 #[tactic(auto, unfolding(crate::specs::Parts::parameter_parts))]
 pub fn parameter_parts(text: &str) -> Option<(&str, &str, Option<&str>, &str)>
     ensures { option_map (λ p. (p.0.now, p.1.now, option_map (λ value. value.now) p.2, p.3.now))

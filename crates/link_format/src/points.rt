@@ -1,4 +1,4 @@
-//! The points of the grammar of links, and what may stand at each (RFC 6690 section 2).
+//! The points of the grammar of links, and the octets allowed at each (RFC 6690 section 2).
 ghost use Rattle.std.specs.Prelude.{◌≡◌, option_map, is_some};
 ghost use Rattle.link_model.specs.DocumentReading as grammar;
 ghost use Rattle.link_format.specs.Points.{point_in};
@@ -7,7 +7,7 @@ use crate::characters::{
     is_name_character, is_not_control, is_target_character, is_token_character,
 };
 
-/// A point of the grammar, by what may stand there.
+/// A point of the grammar. The comment of each variant says what may come there.
 #[derive(Clone, Copy, Debug, PartialEq, Eq)]
 pub enum Point {
     /// The end of the document, or a link.
@@ -36,14 +36,15 @@ pub enum Point {
 
 use Point::*;
 
-/// The point, where it is allowed.
+/// Returns the point if it is allowed.
 fn point_if(allowed: bool, point: Point) -> Option<Point>
     ensures { option_map point_in result ≡ grammar.point_if allowed (point_in point) }
 {
     if allowed { Some(point) } else { None }
 }
 
-/// The point after an octet that follows a link's target or a whole parameter.
+/// Returns the point after an octet that follows the target of a link or a whole parameter. Returns
+/// `None` if the octet is not allowed there.
 fn point_after_part(octet: u8) -> Option<Point>
     ensures { option_map point_in result ≡ grammar.point_after_part octet }
 {
@@ -53,7 +54,8 @@ fn point_after_part(octet: u8) -> Option<Point>
     point_if(octet == b',', Link)
 }
 
-/// The point after an octet that follows a parameter's name.
+/// Returns the point after an octet that follows the name of a parameter, or `None` if the octet is
+/// not allowed there.
 fn point_after_name(octet: u8) -> Option<Point>
     ensures { option_map point_in result ≡ grammar.point_after_name octet }
 {
@@ -63,7 +65,7 @@ fn point_after_name(octet: u8) -> Option<Point>
     point_after_part(octet)
 }
 
-/// The point after an octet of a target.
+/// Returns the point after an octet of a target, or `None` if the octet is not allowed there.
 #[tactic(auto, unfolding(link_model::specs::DocumentReading::point_after))]
 fn point_in_target(octet: u8) -> Option<Point>
     ensures { option_map point_in result ≡ grammar.point_after grammar.at_target octet }
@@ -74,7 +76,7 @@ fn point_in_target(octet: u8) -> Option<Point>
     point_if(is_target_character(octet), Target)
 }
 
-/// The point after a further octet of a name.
+/// Returns the point after a further octet of a name, or `None` if the octet is not allowed there.
 #[tactic(auto, unfolding(link_model::specs::DocumentReading::point_after))]
 fn point_within_name(octet: u8) -> Option<Point>
     ensures { option_map point_in result ≡ grammar.point_after grammar.within_name octet }
@@ -91,7 +93,7 @@ fn point_within_name(octet: u8) -> Option<Point>
     point_after_name(octet)
 }
 
-/// The point after the first octet of a value.
+/// Returns the point after the first octet of a value, or `None` if the octet is not allowed there.
 #[tactic(auto, unfolding(link_model::specs::DocumentReading::point_after))]
 fn point_at_value(octet: u8) -> Option<Point>
     ensures { option_map point_in result ≡ grammar.point_after grammar.at_value octet }
@@ -102,7 +104,8 @@ fn point_at_value(octet: u8) -> Option<Point>
     point_if(is_token_character(octet), Token)
 }
 
-/// The point after a further octet of a token. What ends most tokens is told first.
+/// Returns the point after a further octet of a token, or `None` if the octet is not allowed there.
+/// Tests for a semicolon first, which ends most tokens.
 #[tactic(auto, unfolding(link_model::specs::DocumentReading::point_after))]
 fn point_in_token(octet: u8) -> Option<Point>
     ensures { option_map point_in result ≡ grammar.point_after grammar.in_token octet }
@@ -116,7 +119,8 @@ fn point_in_token(octet: u8) -> Option<Point>
     point_after_part(octet)
 }
 
-/// The point after an octet of a quoted string.
+/// Returns the point after an octet of a quoted string, or `None` if the octet is not allowed
+/// there.
 #[tactic(auto, unfolding(link_model::specs::DocumentReading::point_after))]
 fn point_in_quotes(octet: u8) -> Option<Point>
     ensures { option_map point_in result ≡ grammar.point_after grammar.in_quotes octet }
@@ -130,7 +134,7 @@ fn point_in_quotes(octet: u8) -> Option<Point>
     point_if(is_not_control(octet), Quotes)
 }
 
-/// The point after an octet, where it may stand at the point.
+/// Returns the point after an octet at this point, or `None` if the octet is not allowed there.
 #[tactic(auto, unfolding(link_model::specs::DocumentReading::point_after))]
 pub fn point_after(point: Point, octet: u8) -> Option<Point>
     ensures { option_map point_in result ≡ grammar.point_after (point_in point) octet }
@@ -149,7 +153,7 @@ pub fn point_after(point: Point, octet: u8) -> Option<Point>
     }
 }
 
-/// Whether a document may end at the point.
+/// Returns whether a document may end at the point.
 #[tactic(auto, unfolding(link_model::specs::DocumentReading::links_at_end))]
 pub fn may_end(point: Point) -> bool
     ensures { result ≡ is_some (grammar.links_at_end (point_in point)) }

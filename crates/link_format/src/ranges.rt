@@ -1,16 +1,17 @@
-//! Text in UTF-8, octet by octet (RFC 3629 section 4).
+//! UTF-8, octet by octet (RFC 3629 section 4).
 ghost use Rattle.std.specs.Prelude.{◌≡◌, option_map};
 ghost use Rattle.std.specs.Int.{is_in_range};
 ghost use Rattle.link_model.specs.Utf8Prefix as utf8;
 ghost use Rattle.link_format.specs.Ranges.{tails_after};
 
-/// The least and the greatest octet that may stand at a position.
+/// The least and the greatest octet allowed at a position.
 pub type OctetRange = (u8, u8);
 
-/// An octet that goes on with a character.
+/// The range of the octets that continue a character (UTF8-tail).
 const TAIL: OctetRange = (0x80, 0xBF);
 
-/// The octets that must follow the first one of a character, where one begins with it.
+/// Returns the ranges of the octets that must follow the first octet of a character. Returns `None`
+/// if no character begins with this octet.
 #[tactic(auto, unfolding(link_model::specs::Utf8Prefix::tails_of))]
 fn tails_of(octet: u8) -> Option<&'static [OctetRange]>
     ensures { option_map (λ tails. tails.now) result ≡ utf8.tails_of octet }
@@ -28,7 +29,8 @@ fn tails_of(octet: u8) -> Option<&'static [OctetRange]>
     }
 }
 
-/// The octets that must follow where these had to and this one came, if it may.
+/// Returns the ranges of the octets that are due after `octet`, given those that were due before
+/// it. Returns `None` if the octet is not allowed there.
 pub fn tails_after(tails: &'static [OctetRange], octet: u8) -> Option<&'static [OctetRange]>
     ensures { option_map (λ more. more.now) result ≡ tails_after tails.now octet }
 {

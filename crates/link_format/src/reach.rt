@@ -1,4 +1,4 @@
-//! One walk over octets: how far they begin a document, and whether they are one.
+//! A walk over octets that finds how far they begin a document, and whether they are one.
 ghost use Rattle.std.specs.Prelude.{◌≡◌, ◌≤◌, ◌-◌, [], length, false, is_some, Some, IsTrue};
 ghost use Rattle.link_model.specs.DocumentReading.{document, good_prefix};
 ghost use Rattle.link_model.specs.DocumentReading as grammar;
@@ -10,7 +10,7 @@ use crate::characters::{is_plain_in_quotes, is_target_character};
 use crate::points::{Point, may_end, point_after};
 use crate::ranges::{OctetRange, tails_after};
 
-/// What a walk over octets finds.
+/// The result of a walk over octets.
 #[derive(Clone, Copy, Debug, PartialEq, Eq)]
 pub struct Reach {
     /// The length of the longest prefix that begins some document.
@@ -19,8 +19,8 @@ pub struct Reach {
     pub is_document: bool,
 }
 
-/// Whether an octet is one of those that leave the walk where it is, where no octet is due: most
-/// characters of targets, names and values do, and are found with few tests.
+/// Returns true only if the octet leaves the walk at this point, provided that no octet of a UTF-8
+/// character is due. Recognises most characters of targets, names and values, with few tests.
 fn stays(point: Point, octet: u8) -> bool
     ensures point { IsTrue result
         → grammar.point_after (point_in point) octet ≡ Some (point_in point) }
@@ -35,8 +35,8 @@ fn stays(point: Point, octet: u8) -> bool
     }
 }
 
-/// What stands after the octets at the beginning that leave the walk where it is, where no octet is
-/// due.
+/// Skips the octets at the beginning that leave the walk at this point, and returns the rest. No
+/// octet of a UTF-8 character may be due.
 fn after_staying(point: Point, octets: &[u8]) -> &[u8]
     ensures { StaysUpTo (point_in point) octets.now result.now }
 {
@@ -50,8 +50,8 @@ fn after_staying(point: Point, octets: &[u8]) -> &[u8]
     rest
 }
 
-/// Whether an octet is a character of its own, where no octet is due: one of ASCII, as nearly all
-/// are.
+/// Returns whether no octet of a UTF-8 character is due and this octet is ASCII, as nearly all
+/// octets are.
 fn is_ascii_where_none_due(tails: &[OctetRange], octet: u8) -> bool
     ensures none { IsTrue result → tails.now ≡ [] }
     ensures tails { IsTrue result → tails_after tails.now octet ≡ Some tails.now }
@@ -59,7 +59,7 @@ fn is_ascii_where_none_due(tails: &[OctetRange], octet: u8) -> bool
     tails.is_empty() && octet.is_ascii()
 }
 
-/// Walks over the octets once, up to the first that no document has there.
+/// Walks over the octets once, up to the first that no document has at that position.
 pub fn walk(body: &[u8]) -> Reach
     ensures good_prefix { result.good_prefix ≡ good_prefix body.now }
     ensures document { result.is_document ≡ is_some (document body.now) }
@@ -89,7 +89,7 @@ pub fn walk(body: &[u8]) -> Reach
     }
 }
 
-/// A walk that stops before the rest of a body.
+/// Returns the result of a walk that stops before the rest of a body.
 fn stopped(body: &[u8], rest: &[u8]) -> Reach
     requires { length rest.now ≤ length body.now }
     ensures { result

@@ -1,4 +1,4 @@
-//! What values say, and texts in quotes (RFC 6690 section 2).
+//! The values of parameters without quotes and escapes, and texts in quotes (RFC 6690 section 2).
 ghost use Rattle.std.specs.Prelude.{◌≡◌, ◌==◌, ◌||◌, ◌++◌, IfOk, IfSome, false, true, flat_map};
 ghost use Rattle.std.specs.Char.{encode_utf8};
 ghost use Rattle.std.specs.String.{string_bytes};
@@ -12,17 +12,17 @@ use crate::parameters::Param;
 use rd_base::{Starved, Text};
 use std::alloc::Global;
 
-/// What a value says.
+/// The value of a parameter, without quotes and escapes.
 #[derive(Debug, Drop)]
 pub enum Value<'a> {
-    /// As it is written.
+    /// A part of the document, as it is written.
     Written(&'a str),
-    /// In a text of its own, since it is written with escapes.
+    /// A text of its own, since the document has it with escapes.
     Unescaped(Text),
 }
 
 impl<'a> Value<'a> {
-    /// The text, without quotes and escapes.
+    /// Returns the text, without quotes and escapes.
     pub fn as_str(&self) -> &str
         ensures { result.now ≡ value_seen self.now }
     {
@@ -33,8 +33,12 @@ impl<'a> Value<'a> {
     }
 }
 
-/// The value of a parameter, without quotes and escapes; empty where it has none. Takes memory for
-/// escapes alone. An error says that memory ran out.
+/// Returns the value of a parameter, without quotes and escapes. It is empty if the parameter has
+/// none. Allocates only if the value has escapes.
+///
+/// # Errors
+///
+/// `Starved` if memory runs out.
 pub fn read_value<'a>(alloc: Global, param: &Param<'a>) -> Result<Value<'a>, Starved>
     ensures { IfOk result (λ value. value_seen value
         ≡ quoting.value_of (parameter_seen param.now)) }
@@ -45,8 +49,12 @@ pub fn read_value<'a>(alloc: Global, param: &Param<'a>) -> Result<Value<'a>, Sta
     }
 }
 
-/// The value of a parameter in a text of its own, without quotes and escapes; empty where it has
-/// none. An error says that memory ran out.
+/// Returns the value of a parameter in a text of its own, without quotes and escapes. It is empty
+/// if the parameter has none.
+///
+/// # Errors
+///
+/// `Starved` if memory runs out.
 pub fn value_of(alloc: Global, param: &Param<'_>) -> Result<Text, Starved>
     ensures { IfOk result (λ text. text ≡ quoting.value_of (parameter_seen param.now)) }
 {
@@ -57,7 +65,7 @@ pub fn value_of(alloc: Global, param: &Param<'_>) -> Result<Text, Starved>
     }
 }
 
-/// What a value says: a token itself, a quoted string its content.
+/// Returns a token itself, or the content of a quoted string.
 fn unquoted<'a>(alloc: Global, value: &'a str) -> Result<Value<'a>, Starved>
     ensures { IfOk result (λ said. value_seen said ≡ quoting.unquoted value.now) }
 {
@@ -71,8 +79,8 @@ fn unquoted<'a>(alloc: Global, value: &'a str) -> Result<Value<'a>, Starved>
     content(alloc, characters.as_str())
 }
 
-/// The characters up to a closing quote at the end, where neither a quote nor a backslash is among
-/// them.
+/// Returns the characters up to a closing quote at the end. Returns `None` if no quote is at the
+/// end, or if another quote or a backslash comes before it.
 fn content_as_written(inner: &str) -> Option<&str>
     ensures { IfSome result (λ text. text.now ≡ quoting.content_up_to_quote false inner.now) }
 {
@@ -87,7 +95,8 @@ fn content_as_written(inner: &str) -> Option<&str>
     Some(front)
 }
 
-/// The characters up to a closing quote, each escape replaced by the character that it escapes.
+/// Returns the characters up to a closing quote, with each escape replaced by the character that it
+/// escapes.
 fn content<'a>(alloc: Global, inner: &'a str) -> Result<Value<'a>, Starved>
     ensures { IfOk result (λ said. value_seen said ≡ quoting.content_up_to_quote false inner.now) }
 {
@@ -97,7 +106,8 @@ fn content<'a>(alloc: Global, inner: &'a str) -> Result<Value<'a>, Starved>
     }
 }
 
-/// The same of any characters, one after the other.
+/// Returns what [`content`] returns, in a text of its own, by reading one character after the
+/// other.
 fn unescaped(alloc: Global, inner: &str) -> Result<Text, Starved>
     ensures { IfOk result (λ text. text ≡ quoting.content_up_to_quote false inner.now) }
 {
@@ -122,11 +132,14 @@ fn unescaped(alloc: Global, inner: &str) -> Result<Text, Starved>
     Ok(text)
 }
 
-/// The text in quotes, a backslash before each quote and backslash in it. An error says that memory
-/// ran out.
+/// Returns the text in quotes, with a backslash before each quote and each backslash in it.
 ///
-/// What it writes is a quoted string of the grammar where the text has no control character, and
-/// [`value_of`] reads it back.
+/// The result is a quoted string of the grammar if the text has no control character. [`value_of`]
+/// reads it back.
+///
+/// # Errors
+///
+/// `Starved` if memory runs out.
 pub fn quoted(alloc: Global, value: &str) -> Result<Text, Starved>
     ensures spelled { IfOk result (λ text. text ≡ quoting.quoted value.now) }
     ensures reads_back { IfOk result (λ text. quoting.unquoted text ≡ value.now) }
@@ -143,14 +156,14 @@ pub fn quoted(alloc: Global, value: &str) -> Result<Text, Starved>
     Ok(Text::of(text))
 }
 
-/// Whether a character needs a backslash in quotes.
+/// Returns whether a character needs a backslash in quotes.
 fn is_mark(character: char) -> bool
     ensures { result ≡ (character == quote_mark || character == backslash) }
 {
     character == '"' || character == '\\'
 }
 
-/// Appends a character, with a backslash before a quote and a backslash.
+/// Appends a character, with a backslash before it if it is a quote or a backslash.
 fn push_escaped(text: &mut String, character: char) -> Result<(), Starved>
     ensures { IfOk result (λ _. string_bytes text.new ≡ string_bytes text.old ++ flat_map
         quoting.escaped_character (encode_utf8 character)) }

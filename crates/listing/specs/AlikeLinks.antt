@@ -9,32 +9,34 @@ use Rattle.record_model.specs.ListingLines.{link_line, same_lines}
 use Rattle.record_model.specs.Matching.{endpoint_matches}
 use Rattle.listing.specs.ListedLinks.{lines_by}
 
--- two links with the same line, target, anchor and attributes
+-- Two links with the same line, target, anchor and attributes.
 pub record AreAlike (x y : Item) : Type 0 where
   pub line : link_line x ≡ link_line y
   pub target : x.target ≡ y.target
   pub anchor : x.anchor ≡ y.anchor
   pub pairs : x.pairs ≡ y.pairs
 
--- both lists have the same length, and their links are alike, one by one
+-- States that both lists have the same length, and that their links are alike, one by one.
 abbrev pub AreAllAlike : List Item → List Item → Type 0
 AreAllAlike [] [] = Unit {0}
 AreAllAlike [] (y ∷ ys) = ⊥
 AreAllAlike (x ∷ xs) [] = ⊥
 AreAllAlike (x ∷ xs) (y ∷ ys) = AreAlike x y × AreAllAlike xs ys
 
--- each criterion matches both endpoints by themselves, or neither
+-- States that each criterion matches both endpoints by themselves, or neither.
 abbrev pub AreJudgedAlike : List Criterion → Record → Record → Type 0
 AreJudgedAlike criteria r s =
     AllByRecursion (λ criterion. endpoint_matches criterion r ≡ endpoint_matches criterion s)
     criteria
 
--- if `together` holds, each of two links that are alike passes both tests or neither
+-- States that, if `together` holds, two links that are alike get the same answer: the first from
+-- `test`, the second from `other`.
 abbrev pub Agree : Bool → (Item → Bool) → (Item → Bool) → Type 0
 Agree together test other = together ≡ true → (x y : Item) → AreAlike x y → test x ≡ other y
 
--- What is left of the links of two registrations after links at the beginning were left out that
--- are alike. If the tests agree, both contribute the same lines if and only if what is left does.
+-- The remaining links of two registrations, after links at the beginning that are alike were left
+-- out. If the tests agree, the registrations contribute the same lines if and only if the remaining
+-- links do.
 pub record AreLeftAlike (together : Bool) (old new left others : List Item) : Type 0 where
   pub same : (test other : Item → Bool)
       → Agree together test other

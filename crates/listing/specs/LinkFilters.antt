@@ -1,5 +1,5 @@
--- Which links a query lists: by what the first criterion that the endpoint does not match seeks,
--- and by the criteria after it.
+-- The links that a query lists. A filter first checks the first criterion that does not match the
+-- endpoint by itself, and then the criteria after it.
 use Rattle.std.specs.Prelude.{◌≡◌, Bool, ◌&&◌, ◌||◌, List, Option, Some, None}
 use Rattle.std.specs.List.{list_all}
 use Rattle.std.specs.Option.{option_copied}
@@ -14,14 +14,16 @@ use Rattle.listing.specs.JudgedEndpoints.{AreJudged, AreJudgedOf}
 use Rattle.listing.specs.ListedLinks.{listed_of}
 use Rattle.listing.specs.SoughtLinks.{is_found_if_any}
 
--- each criterion matches the link by itself, or its endpoint by itself if there is one
+-- Returns whether each criterion matches the link by itself, or its endpoint by itself if there is
+-- one.
 abbrev pub meets : Option Record → List Criterion → Item → Bool
 meets (Some r) criteria item =
     list_all (λ criterion. link_matches criterion item || endpoint_matches criterion r) criteria
 meets None criteria item = list_all (λ criterion. link_matches criterion item) criteria
 
--- what the first criterion that does not match the endpoint by itself seeks, the criteria after it,
--- and the answers for the first of these
+-- The parts into which criteria are cut. `first` is what the first criterion that does not match
+-- the endpoint by itself seeks. `rest` has the criteria after it, and `left` the answers for the
+-- first of these.
 pub record IsSifted (criteria : List Criterion) (answers : List Bool) (first : Option Sought)
     (rest : List Criterion) (left : List Bool) : Type 0 where
   pub judged : (r : Record) → AreJudged r answers criteria → AreJudged r left rest
@@ -30,15 +32,16 @@ pub record IsSifted (criteria : List Criterion) (answers : List Bool) (first : O
       → (item : Item)
       → (is_found_if_any first item && meets (Some r) rest item) ≡ meets (Some r) criteria item
 
--- the filter lists the link
+-- Returns whether the filter lists the link.
 abbrev pub sifts : LinkFilter → Item → Bool
 sifts s item = is_found_if_any s.first item && meets (option_copied s.owner) s.rest.now item
 
--- its answers say which of the first of its criteria match the endpoint by itself
+-- States that the answers of the filter say which of the first of its criteria match the endpoint
+-- by itself.
 abbrev pub IsJudged : LinkFilter → Type 0
 IsJudged s = AreJudgedOf (option_copied s.owner) s.judged.now s.rest.now
 
--- the filter lists exactly the links that the query lists
+-- A filter that lists exactly the links that the query lists.
 pub record IsLinkFilter (query : Query) (owner : Option Record) (s : LinkFilter) : Type 0 where
   pub judged : IsJudged s
   pub lists : (item : Item) → sifts s item ≡ listed_of query owner item

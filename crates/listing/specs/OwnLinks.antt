@@ -3,17 +3,17 @@ use Rattle.std.specs.Prelude.{ℕ, Bool, List, [], ◌∷◌, ◌++◌, codes, N
 use Rattle.rd_base.specs.declared.attributes.Pair.{Pair}
 use Rattle.rd_base.specs.declared.records.Item.{Item}
 
--- the attribute of an observable resource (RFC 7641 section 6)
+-- Returns the attribute `obs` if the resource is observable (RFC 7641 section 6), or nothing.
 abbrev pub observable_pairs : Bool → List Pair
 observable_pairs observable =
     if observable then record { name = codes "obs"; value = [] } ∷ [] else []
 
--- attributes as they were written, and that of an observable resource
+-- Returns attributes as they were written, followed by `obs` if the resource is observable.
 abbrev pub observed_text : Bool → List ℕ → List ℕ
 observed_text observable raw = if observable then raw ++ codes ";obs" else raw
 
--- A link of the directory itself. Its attributes are its type as it is written, the content format
--- of link documents, and whether it can be observed.
+-- Returns a link of the directory itself. Its attributes are its type as it is written, the content
+-- format of link documents, and `obs` if it can be observed.
 abbrev pub own_item : List ℕ → List ℕ → List ℕ → Bool → Item
 own_item target typed type observable = record {
   target_ref = target;

@@ -7,15 +7,15 @@ use Rattle.link_model.specs.Quoting.{escaped_character}
 use Rattle.listing.specs.declared.pieces.Piece.{Piece}
 use Rattle.listing.specs.declared.pieces.Piece.TheVariants.{Plain, Escaped}
 
--- the octets of a piece
+-- Returns the octets of a piece.
 abbrev pub octets_of_piece : Piece → List ℕ
 octets_of_piece (Plain text) = text.now
 octets_of_piece (Escaped text) = flat_map escaped_character text.now
 
--- the octets of pieces in a row
+-- Returns the octets of pieces, one after another.
 abbrev pub octets_of_pieces : List Piece → List ℕ
 octets_of_pieces pieces = flat_map octets_of_piece pieces
 
--- the line of an endpoint before its extra attributes
+-- Returns the part of an endpoint's line before its extra attributes.
 unfoldable pub own_line : Record → List ℕ
 own_line r = bracketed (location r.number) ++ flat_map quoted_attribute (own_pairs r)

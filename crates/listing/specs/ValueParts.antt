@@ -4,7 +4,8 @@ use Rattle.std.specs.Prelude.{◌≡◌, ℕ, ◌<◌, List, [], ◌∷◌, leng
 use denote.Ref.{Bor}
 use Rattle.record_model.specs.Matching.{parts_of}
 
--- the first part of a value, and a shorter text with its other parts; or the value has no part
+-- States that the result is the first part of a value, with a shorter text that has its other
+-- parts. Without a result, the value has no part.
 abbrev pub FirstPart : List ℕ → Option (Bor (List ℕ) × Bor (List ℕ)) → Type 0
 FirstPart value (Some (part, rest)) =
     (parts_of value ≡ part.now ∷ parts_of rest.now) × (length rest.now < length value)

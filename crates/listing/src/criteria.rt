@@ -1,4 +1,4 @@
-//! Which links and endpoints match criteria (RFC 6690 section 4.1, RFC 9176 section 6.2).
+//! The links and endpoints that criteria match (RFC 6690 section 4.1, RFC 9176 section 6.2).
 ghost use Rattle.std.specs.Prelude.{◌≡◌, ◌<◌, ◌&&◌, bytes_eq, codes, length};
 ghost use Rattle.std.specs.List.{list_any, HoldsAt};
 ghost use Rattle.record_model.specs.Matching as model;

@@ -1,4 +1,4 @@
-//! Which links and endpoints of one registration a lookup lists, and how their lines are spelled
+//! The links and endpoints of one registration that a lookup lists, and the text of their lines
 //! (RFC 9176 section 6).
 #![tactic(auto)]
 

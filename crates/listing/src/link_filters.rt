@@ -1,5 +1,5 @@
-//! Which links of one registration a query lists, determined once for all of them (RFC 9176 section
-//! 6.2).
+//! The links of one registration that a query lists (RFC 9176 section 6.2). What all of them have
+//! in common is determined once.
 ghost use Rattle.std.specs.Prelude.{◌≡◌, ◌||◌, true, IsTrue};
 ghost use Rattle.std.specs.List.{list_all};
 ghost use Rattle.std.specs.Option.{option_copied};
@@ -18,17 +18,20 @@ use rd_base::{Criterion, Link, Query, Record};
 pub(crate) struct LinkFilter<'a> {
     /// The registration, or `None` for the directory itself.
     owner: Option<&'a Record>,
-    /// What the first criterion that does not match the endpoint by itself seeks.
+    /// The search of the first criterion that does not match the endpoint by itself, or `None` if
+    /// all those with answers match. Always `None` for the directory itself.
     first: Option<Sought<'a>>,
-    /// The criteria after that one.
+    /// The criteria after that one. If `first` is `None`, the criteria without answers, or all for
+    /// the directory itself.
     rest: &'a [Criterion],
-    /// For the first of those, whether they match the endpoint by itself.
+    /// The answers for the first criteria of `rest`: whether each matches the endpoint by itself.
     judged: &'a [bool],
 }
 
 /// Finds the first criterion that does not match the endpoint by itself.
 ///
-/// Returns what it seeks, the criteria after it, and the answers for the first of these.
+/// Returns what it seeks, the criteria after it, and the answers for the first of these. If each
+/// answer is yes, returns `None` and the criteria that have no answer.
 fn sift<'a>(
     criteria: &'a [Criterion],
     judged: &'a [bool],
@@ -50,8 +53,9 @@ fn sift<'a>(
     (None, rest, left)
 }
 
-/// Returns whether each criterion matches the link by itself or its endpoint by itself. The first
-/// answers say which criteria match the endpoint.
+/// Returns whether each criterion matches the link by itself or its endpoint by itself.
+///
+/// `judged` says of the first criteria whether they match the endpoint by itself.
 #[inline(never)]
 fn link_listed_by(
     criteria: &[Criterion],

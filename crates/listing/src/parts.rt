@@ -125,7 +125,9 @@ pub fn append_links(
     append_sifted(&link_filter, items, skip, most, into)
 }
 
-/// Appends the line of the endpoint if it is listed, by the same rules.
+/// Appends the line of the endpoint if it is listed, `skip` is 0 and `most` is not 0.
+///
+/// Returns how many lines it skipped and appended. On an error, `into` does not change.
 fn append_listed_endpoint(
     query: &Query,
     record_of: &Record,

@@ -1,4 +1,4 @@
-//! Patterns against values (RFC 6690 section 4.1).
+//! Patterns, and the values that they match (RFC 6690 section 4.1).
 ghost use Rattle.std.specs.Prelude.{◌≡◌, ◌==◌, ◌&&◌, ◌≤◌, ℕ, List, None, true, false, length};
 ghost use Rattle.std.specs.Prelude.{bytes_eq, not};
 ghost use Rattle.link_model.specs.Characters.{is_empty};
@@ -95,7 +95,8 @@ impl<'a> Pattern<'a> {
         }
     }
 
-    /// Returns whether one part of the value fits the pattern, for any value.
+    /// Returns whether one part of the value fits the pattern. A value without spaces is one part,
+    /// unless it is empty.
     #[inline(never)]
     fn fits_any_part(&self, value: &str) -> bool
         ensures { result ≡ list_any (fits self.now) (model.parts_of value.now) }
@@ -109,7 +110,7 @@ impl<'a> Pattern<'a> {
         self.fits(value)
     }
 
-    /// Returns whether one part of the value fits the pattern, for a value with spaces.
+    /// Returns whether one part of the value fits the pattern. Cuts the value into its parts.
     fn fits_a_part(&self, value: &str) -> bool
         ensures { result ≡ list_any (fits self.now) (model.parts_of value.now) }
     {

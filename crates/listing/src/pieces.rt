@@ -7,7 +7,8 @@ ghost use Rattle.listing.specs.Pieces.{octets_of_pieces, own_line};
 
 use rd_base::{Pair, Record};
 
-/// How many pieces each part of a line is cut into. Pieces that are not needed are empty.
+/// The number of pieces into which each part of a line is cut. Pieces that are not needed are
+/// empty.
 pub const PIECES: usize = 9;
 
 /// A piece of a line.
@@ -26,7 +27,7 @@ pub fn is_escaped(octet: u8) -> bool
     octet == b'"' || octet == b'\\'
 }
 
-/// Returns the part of an endpoint's line before its extra attributes.
+/// Returns the pieces of an endpoint's line before its extra attributes.
 pub fn endpoint_pieces<'a>(record_of: &'a Record, location: &'a [u8]) -> [Piece<'a>; PIECES]
     requires { location.now ≡ model.location record_of.now.number }
     ensures { octets_of_pieces result ≡ own_line record_of.now }
@@ -61,7 +62,8 @@ pub fn endpoint_pieces<'a>(record_of: &'a Record, location: &'a [u8]) -> [Piece<
     ]
 }
 
-/// Returns an extra attribute of an endpoint: its name alone if its value is empty.
+/// Returns the pieces of an extra attribute of an endpoint. They have its name alone if its value
+/// is empty.
 #[rattlefmt::skip]
 #[tactic(
     auto,

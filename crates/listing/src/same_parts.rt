@@ -1,4 +1,4 @@
-//! Whether two states of a registration contribute the same lines.
+//! The comparison of the lines that two states of a registration contribute.
 ghost use Rattle.std.specs.Prelude.{◌≡◌, ◌↔◌, [], Some, bytes_eq, IsTrue};
 ghost use Rattle.std.specs.Option.{option_copied};
 ghost use Rattle.record_model.specs.ListingLines as listing_model;

@@ -7,7 +7,7 @@ use Rattle.history_model.specs.declared.entries.Change.TheVariants as change
 use Rattle.observation.specs.declared.change_kinds.ChangeKind.{ChangeKind}
 use Rattle.observation.specs.declared.change_kinds.ChangeKind.TheVariants as kind
 
--- the kind of a change
+-- Returns the kind of a change.
 abbrev pub kind_of : Change → ChangeKind
 kind_of (change.Register params links) = kind.Registration
 kind_of (change.Update number given) = kind.Update
@@ -15,7 +15,7 @@ kind_of (change.Replace number links) = kind.Replacement
 kind_of (change.Remove number) = kind.Removal
 kind_of (change.Begin first) = kind.Beginning
 
--- the registration exists before and after, with the same base and the same attributes
+-- States that the registration exists before and after, with the same base and the same attributes.
 abbrev pub StaysAsShown : Option Record → Option Record → Type 0
 StaysAsShown None new = ⊥
 StaysAsShown (Some old) None = ⊥

@@ -10,8 +10,8 @@ use Rattle.journal_model.specs.declared.rows.Row.{Row}
 use Rattle.journal_model.specs.Journal.{entries}
 use Rattle.journal_model.specs.Rows.{row_moment}
 
--- An entry that the row of a step makes. Nothing refuses it, and it is made at the moment of the
--- row. These are the states of its registration then, before and after it.
+-- An entry that the row of a step makes. It is accepted, and it is made at the moment of the row.
+-- `old` and `new` are the live states of its registration at that moment, before and after it.
 pub record IsEntered (rows : List Row) (s : Step) (entry : Entry) (old new : Option Record) : Type 0
   where
     pub accepted : change_refusal 0 (entries rows) entry ≡ None

@@ -1,14 +1,14 @@
--- kinds of changes, and updates that leave the base and the attributes (RFC 9176 section 5.3)
+-- Kinds of changes, and updates that leave the base and the attributes (RFC 9176 section 5.3).
 pub mod ChangeKinds
--- the version at the end of a journal
+-- The version at the end of a journal.
 pub mod Directories
--- marks that make observers due, and an entry with its registration (RFC 7641 section 4.2, RFC 9176
--- section 5)
+-- Marks that make observers due, and an entry with its registration (RFC 7641 section 4.2, RFC 9176
+-- section 5).
 pub mod Marks
 pub mod Entering
--- adding observers, rows that send a notification, and the next observer (RFC 7641 sections 4.1 and
--- 4.2)
+-- Adding observers, rows that send a notification, and the next observer (RFC 7641 sections 4.1 and
+-- 4.2).
 pub mod Joining
 pub mod Notifications
--- the watched queries with their observers, and the journal that they stand for (RFC 7641)
+-- The watched queries with their observers, and the journal that they stand for (RFC 7641).
 pub mod Watching

@@ -15,53 +15,56 @@ use Rattle.watch_table.specs.ObserverCounts.{WatchesStandFor}
 use Rattle.observers.specs.Standing.{Standing, is_named}
 use Rattle.observers.specs.ObserverEvents.{observer_of, ObserversStandFor}
 
--- the watched queries in their slots, and the observers, each with the slot of its query
+-- The watched queries in their slots, and the observers, each with the slot of its query.
 pub record Watching : Type 0 where
   pub watches : watched.Table
   pub observers : List Standing
 
--- the query of an observer is watched in its slot
+-- States that the query of an observer is watched in its slot.
 abbrev pub IsInSlot : watched.Table → (ℕ → Query) → Standing → Type 0
 IsInSlot t queries w = query_at w.slot t ≡ Some (queries w.slot)
 
--- each query is watched as often as it is observed, given the queries in their slots
+-- Watched queries and observers that agree, given the queries in their slots. Each query is watched
+-- as often as it is observed.
 pub record AreWatchedBy (queries : ℕ → Query) (t : watched.Table)
     (ws : List Standing) : Type 0 where
   pub in_slots : AllByRecursion (IsInSlot t queries) ws
   pub watches : WatchesStandFor (map (observer_of queries) ws) t
 
--- two observers differ in peer or token
+-- States that two observers differ in peer or token.
 abbrev pub IsOtherName : Standing → Standing → Type 0
 IsOtherName w other = is_named w.peer w.token other ≡ false
 
--- all observers differ in peer or token (RFC 7641 section 4.1)
+-- States that all observers differ in peer or token (RFC 7641 section 4.1).
 abbrev pub HaveOtherNames : List Standing → Type 0
 HaveOtherNames [] = Unit {0}
 HaveOtherNames (w ∷ ws) = AllByRecursion (IsOtherName w) ws × HaveOtherNames ws
 
--- each query is watched as often as it is observed, and all observers differ in peer or token
+-- Watched queries and observers that agree. Each query is watched as often as it is observed, and
+-- all observers differ in peer or token.
 pub record AreWatched (t : watched.Table) (ws : List Standing) : Type 0 where
   pub queries : ℕ → Query
   pub by : AreWatchedBy queries t ws
   pub apart : HaveOtherNames ws
 
--- a body that is set is the listing of its query
+-- States that the body of an entry, if it has one, is the current listing of its query.
 abbrev pub HasListing : List Row → ℕ × Watched → Type 0
 HasListing rows e =
     (body : List ℕ) → e.1.body ≡ Some body → body ≡ listing e.1.query (entries rows) (now rows)
 
--- no mark is set
+-- States that the entry is not marked.
 abbrev pub IsUnmarked : ℕ × Watched → Type 0
 IsUnmarked e = e.1.marked ≡ false
 
--- a notification in flight is a confirmable message with its Message ID
+-- States that the notification in flight to an observer, if there is one, is a confirmable message
+-- with its Message ID.
 abbrev pub IsConfirmable : Standing → Type 0
 IsConfirmable w = (s : Sent) → w.flight ≡ Some s → is_confirmable_with s.mid s.octets ≡ true
 
--- The watched queries and observers stand for a journal. They are the observers of its events, each
--- due as its transitions say, and with the notification that is in flight to it. Each query is
--- watched as often as it is observed. No mark is left, and each body that is set is the current
--- listing.
+-- Watched queries and observers that stand for a journal. The observers are those of its events.
+-- Each is due as the transitions of the journal say, and has the notification that is in flight to
+-- it. Each query is watched as often as it is observed. No query is marked, and each body that is
+-- set is the current listing.
 pub record WatchingStandsFor (rows : List Row) (w : Watching) : Type 0 where
   pub queries : ℕ → Query
   pub in_slots : AllByRecursion (IsInSlot w.watches queries) w.observers

@@ -18,7 +18,7 @@ pub enum ChangeKind {
     Replacement,
     /// A removal (RFC 9176 section 5.3.2).
     Removal,
-    /// The beginning of a run, which is about no registration.
+    /// The beginning of a run, which concerns no registration.
     Beginning,
 }
 

@@ -20,11 +20,11 @@ use std::alloc::Global;
 use std::sync::Arc;
 use watch_table::{WatchFault, WatchTable};
 
-/// A client that requests an observation of a lookup: all that is stored of it except the slot of
+/// A request of a client to observe a lookup: all that is stored of the observer except the slot of
 /// its query.
 #[derive(Drop)]
 pub struct Joining {
-    /// The peer that its notifications are sent to.
+    /// The peer that receives its notifications.
     pub peer: Peer,
     /// The token of its request, which each notification has.
     pub token: Token,

@@ -1,5 +1,5 @@
-//! The observers of the directory: who observes which lookup, who is due, and how each change of
-//! the registrations affects them (RFC 7641).
+//! The observers of the directory: the lookup that each observes, those that are due, and how each
+//! change of the registrations affects them (RFC 7641).
 #![tactic(auto)]
 
 mod change_kinds;

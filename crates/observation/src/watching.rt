@@ -1,4 +1,4 @@
-//! The watched queries and their observers: who observes, and who is due (RFC 7641 section 4).
+//! The watched queries and their observers, and those observers that are due (RFC 7641 section 4).
 ghost use Rattle.std.specs.Prelude.{◌≡◌, ◌≢◌, ◌≤◌, ◌<◌, ◌∷◌, [], ◌&&◌, List, Bool, true, false};
 ghost use Rattle.std.specs.Prelude.{Some, IfOk, IfSome, OnErr, map, length, nat_lt, option_map};
 ghost use Rattle.std.specs.Prelude.{slice_get, remove};

@@ -9,13 +9,13 @@
 
 -- A step in progress.
 pub mod UnderWay
--- A write that arrives, a listing that is built and kept, and a client that asks to observe (RFC
--- 7252 section 4.5, RFC 7959 section 2.4, RFC 7641 section 4.1).
+-- A write on receipt, a listing that is built and kept, and a client that asks to observe (RFC 7252
+-- section 4.5, RFC 7959 section 2.4, RFC 7641 section 4.1).
 pub mod Hearing
 pub mod Lookups
 -- What a response to a fetch does if memory suffices (RFC 9176 section 5.1).
 pub mod Responding
--- How an admitted write is settled or fails, what is planned for it, and its answer (RFC 7252
+-- The settling or failure of an admitted write, what is planned for it, and its answer (RFC 7252
 -- sections 4.2 and 4.5, RFC 9176 section 5).
 pub mod Committing
 pub mod Outcomes
@@ -28,7 +28,7 @@ pub mod Laying
 pub mod Beginnings
 -- What a tick does with a notification in flight (RFC 7641 section 4.5).
 pub mod Noticing
--- What a tick does with the requests of fetches, what it plans for its notifications, and how a
--- plan is carried out (RFC 7252 section 4.2, RFC 7641 section 4.2).
+-- What a tick does with the requests of fetches, what it plans for its notifications, and how it
+-- carries out a plan (RFC 7252 section 4.2, RFC 7641 section 4.2).
 pub mod Resending
 pub mod Planning

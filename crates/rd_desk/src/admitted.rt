@@ -6,7 +6,7 @@ use crate::WriteJob;
 pub enum Admitted {
     /// The datagram is done with.
     Done,
-    /// It is a write that was admitted, and the worker has this job.
+    /// The datagram is a write that was admitted, and the worker has this job.
     Held(WriteJob),
     /// Memory ran out. A request has been answered 5.00.
     Starved,

@@ -1,5 +1,5 @@
-//! The beginning of a run, above whose number all later numbers and the count of entries lie (this
-//! project's profile).
+//! The beginning of a run, which gives a number. All later numbers and the count of entries are
+//! above it (this project's profile).
 ghost use Rattle.std.specs.Prelude.{◌≡◌, ◌≤◌, ◌^◌, ℕ, [], false, List, None, IfOk, IfSome};
 ghost use Rattle.std.specs.Arc.{arc_value};
 ghost use Rattle.history_model.specs.declared.entries.Entry.{Entry};
@@ -28,7 +28,7 @@ use rd_base::{Moment, Starved};
 use std::alloc::Global;
 use std::sync::Arc;
 
-/// Returns `None` for a beginning that is refused.
+/// Returns `None` for a beginning that is refused, or `Starved` if memory ran out.
 fn unbegun(refusal: Refusal) -> Result<Option<Entering>, Starved>
     ensures none { IfOk result (λ ready. ready ≡ None) }
     ensures begun { (history : List Entry) (swept : ℕ) (entry : Entry)
@@ -76,8 +76,9 @@ fn begun(
 }
 
 impl Tables {
-    /// Begins a run above `first`. `now` is at most 10^15; one earlier than the tables' moment is
-    /// raised to it. Sends nothing and draws no Message ID. After `Starved`, the run has not begun.
+    /// Begins a run above `first`. `now` is at most 10^15 milliseconds; one earlier than the
+    /// tables' moment is raised to it. Sends nothing and draws no Message ID. After `Starved`, the
+    /// run has not begun.
     pub(crate) fn begin<B: Board>(
         &mut self,
         board: &mut B,

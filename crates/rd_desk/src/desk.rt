@@ -1,4 +1,4 @@
-//! The directory as a state machine: each call makes one step, and does what the journal says of
+//! The directory as a state machine. Each call makes one step, and does what the journal says of
 //! its row (RFC 9176, RFC 7252, RFC 7641, RFC 7959).
 ghost use Rattle.std.specs.Prelude.{◌≡◌, ◌≤◌, ◌^◌, ℕ, true, false, [], ◌∷◌, List, Some, Ok, IfOk};
 ghost use Rattle.std.specs.Prelude.{IfErr, IfSome, length, slice_get};

@@ -1,5 +1,5 @@
-//! The core of the directory, as a state machine without I/O: a datagram, a job or a tick goes in,
-//! and datagrams come out (RFC 7252, RFC 9176).
+//! The core of the directory, as a state machine without I/O. Datagrams, jobs and ticks go in, and
+//! datagrams come out (RFC 7252, RFC 9176).
 #![tactic(auto)]
 
 mod admitted;

@@ -5,6 +5,6 @@
 pub enum Stepped {
     /// The step is done.
     Done,
-    /// Memory ran out. A request has been answered 5.00.
+    /// Memory ran out. If the step was made for a request, the request has been answered 5.00.
     Starved,
 }

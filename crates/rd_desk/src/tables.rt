@@ -26,7 +26,7 @@ use transfers::Transfers;
 pub(crate) struct Tables {
     /// The allocator.
     pub(crate) alloc: Global,
-    /// The latest moment passed in so far, at most 10^15.
+    /// The latest moment passed in so far, in milliseconds, at most 10^15.
     pub(crate) moment: Moment,
     /// The registrations.
     pub(crate) version: Arc<Directory>,
@@ -92,9 +92,9 @@ impl Tables {
         })
     }
 
-    /// Lets time pass to a moment, at most 10^15; an earlier one than the tables' own changes
-    /// nothing. An observer whose listing a lapse changed meanwhile becomes due. Each step begins
-    /// with this call. Does not allocate.
+    /// Lets time pass to a moment, which is at most 10^15 milliseconds. A moment earlier than the
+    /// tables' own changes nothing. An observer whose listing a lapse changed meanwhile becomes
+    /// due. Each step begins with this call. Does not allocate.
     pub(crate) fn pass(&mut self, now: Moment)
         requires { now.0 ≤ 10 ^ 15 }
         ensures way { (rows : List Row) (s : Step) (starved : Bool) (out : List (Peer

@@ -3,8 +3,8 @@ use Rattle.std.specs.Prelude.{◌≡◌, ◌≤◌, length, vec_len}
 use Rattle.hosting.specs.Words.{IsPlan}
 use Rattle.rd_host.specs.declared.Opened.{Opened}
 
--- a plan that names only addresses that have a socket, and has connections only if some are
--- accepted
+-- A plan that names only addresses with a socket, one for each. It has connections only if there is
+-- a socket that accepts them.
 pub record IsOpened (opened : Opened) : Type 0 where
   pub plan : IsPlan opened.plan
   pub some_listeners : 1 ≤ vec_len opened.listeners

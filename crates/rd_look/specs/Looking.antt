@@ -21,9 +21,9 @@ use Rattle.rd_look.specs.declared.looks.Found.TheVariants as found
 use Rattle.rd_look.specs.declared.looks.Looked.{Looked}
 use Rattle.rd_look.specs.declared.looks.Looked.TheVariants as ended
 
--- Returns the result of a look that found this: 2.03 if the client has the body, 4.04 if a
--- registration is not live, and otherwise the body. A listing or source longer than a block is
--- held.
+-- Returns the result of a look that found this. The look answers 2.03 if the client has the body,
+-- and 4.04 if the registration is not live. Otherwise it answers with the body, or holds a listing
+-- or source that is longer than the requested block.
 abbrev pub look_found : Message → Found → Look
 look_found m (found.Valid current) = answered (still_valid current.0)
 look_found m (found.Links links) =
@@ -38,12 +38,13 @@ is_starved_look ended.Done = false
 is_starved_look (ended.Held job) = false
 is_starved_look ended.Starved = true
 
--- Returns what a look sends with this result, or if memory ran out.
+-- Returns what a look with this result sends. If memory ran out, it answers 5.00.
 abbrev pub look_done : Bool → Step → Message → Look → Effects
 look_done true s m given = without_memory s m
 look_done false s m given = look_sent s m (Some given)
 
--- Returns the body that the look leaves to be kept, if there is one.
+-- Returns the body that the look leaves to be kept, if there is one. It leaves none if memory ran
+-- out.
 abbrev pub look_left : Bool → Look → Option Answer
 look_left true given = None
 look_left false given = body_held (Some given)

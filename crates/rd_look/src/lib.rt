@@ -1,6 +1,5 @@
-//! Answers to lookups, reads of a registration, and discovery, from one version of the directory;
-//! and the job that a long listing or source leaves (RFC 9176 sections 4.1, 5.3.3 and 6, RFC 7959
-//! section 2.4).
+//! Answers to lookups, reads of a registration, and discovery, from one version of the directory. A
+//! long listing or source leaves a job (RFC 9176 sections 4.1, 5.3.3 and 6, RFC 7959 section 2.4).
 #![tactic(auto)]
 
 mod keep_jobs;

@@ -42,8 +42,8 @@ use std::sync::ledger::{Blank, Ledger};
 pub enum Looked {
     /// The look has been answered.
     Done,
-    /// The listing or source is longer than one block. Nothing has been sent yet, and the worker
-    /// has this job.
+    /// The listing or source is longer than the requested block. Nothing has been sent yet, and the
+    /// worker has this job.
     Held(KeepJob),
     /// Memory ran out, and the look has been answered 5.00.
     Starved,
@@ -112,7 +112,8 @@ pub fn listing_at<L: Ledger>(
     version.lookup(query, now, &mut steps)
 }
 
-/// Returns what a lookup finds in a version at a moment: its listing, unless the client has it.
+/// Returns what a lookup finds in a version at a moment. It finds its listing, unless the client
+/// already has it.
 fn find_listing(
     version: &Directory,
     now: Moment,
@@ -135,8 +136,8 @@ fn find_listing(
     Ok(Found::Links(TaggedLinks { octets, tag }))
 }
 
-/// Returns what a read of the registration with a number finds in a version at a moment: its
-/// source, unless the client has it, or that it is not live.
+/// Returns what a read of the registration with a number finds in a version at a moment. It finds
+/// the source, unless the client already has it or the registration is not live.
 fn find_source(
     version: &Directory,
     now: Moment,
@@ -231,8 +232,8 @@ fn find(
     }
 }
 
-/// Returns 2.03 with this tag alone, the answer to a request that names the tag of what is found
-/// (RFC 7252 section 5.10.6.2).
+/// Returns 2.03 with this tag alone. It answers a request that names the tag of what is found (RFC
+/// 7252 section 5.10.6.2).
 fn still_valid(tag: Tag) -> Reply<'static>
     ensures said { reply_said result ≡ looks_of.still_valid tag.0 }
     ensures reply { IsReply result }
@@ -293,8 +294,8 @@ pub fn send_block(
     answer(mids, peer, &request.meaning.view, &reply, out);
 }
 
-/// Sends what was found. If it is a listing or a source longer than the requested block, holds it
-/// instead.
+/// Sends what was found. Holds a listing or a source instead if it is longer than the requested
+/// block.
 fn give(
     alloc: Global,
     mids: &mut Mids,
@@ -333,7 +334,7 @@ fn give(
     }
 }
 
-/// Sends a listing or a source. If it is longer than the requested block, holds it instead.
+/// Sends a listing or a source. Holds it instead if it is longer than the requested block.
 fn give_links(
     alloc: Global,
     mids: &mut Mids,

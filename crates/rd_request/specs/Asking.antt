@@ -39,15 +39,15 @@ refused_with (refused.Request refusal) = diagnostic (refusal_code refusal) (diag
 refused_with refused.Query = diagnostic codes_of.bad_request (codes "query")
 refused_with refused.Payload = diagnostic codes_of.bad_request (codes "payload")
 
--- States that the message is refused so by its content alone. Its options are refused first, and
--- anything else only if none of them is (RFC 7252 section 5.4.1).
+-- States that the message is refused with this by its content alone. Options are checked first, so
+-- any other refusal means that none of them is refused (RFC 7252 section 5.4.1).
 abbrev pub IsRefusedBy : Refused → Message → Type 0
 IsRefusedBy (refused.Request refusal) m = refusal_of m ≡ Some refusal
 IsRefusedBy refused.Query m = refusal_of m ≡ None
 IsRefusedBy refused.Payload m = refusal_of m ≡ None
 
--- Returns whether the refusal is of a non-confirmable message with an unrecognized critical option,
--- which gets no answer (RFC 7252 section 5.4.1).
+-- Returns whether the refusal gets no answer. It gets none if the message is non-confirmable and
+-- has an unrecognized critical option (RFC 7252 section 5.4.1).
 abbrev pub is_passed_over : Kind4 → Refused → Bool
 is_passed_over Non (refused.Request (refusal.BadOption number)) = true
 is_passed_over _ _ = false

@@ -57,12 +57,12 @@ IsIncoming datagram (incoming.Write request) =
     IsFor role.Request datagram (message_of request)
     × (writes_to_registrations (message_of request) ≡ true)
 
--- Returns whether the datagram is a look.
+-- Returns whether a datagram is a look, from what it is to the directory.
 abbrev pub looks : Incoming → Bool
 looks (incoming.Look request) = true
 looks _ = false
 
--- Returns whether the datagram is a write.
+-- Returns whether a datagram is a write, from what it is to the directory.
 abbrev pub writes : Incoming → Bool
 writes (incoming.Write request) = true
 writes _ = false

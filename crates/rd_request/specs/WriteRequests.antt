@@ -1,4 +1,4 @@
--- Requests that write to the registrations, or to one of them.
+-- The requests that write to the registrations, or to one of them.
 use Rattle.std.specs.Prelude.{ℕ, Bool, false, ◌&&◌, List, Result, Ok, Err, is_none}
 use Rattle.message_model.specs.declared.messages.Role.{Role}
 use Rattle.message_model.specs.declared.messages.Role.TheVariants as role
@@ -18,7 +18,7 @@ abbrev pub is_write_message : Role → Message → Bool
 is_write_message role.Request m = is_none (refusal_of_request m) && writes_to_registrations m
 is_write_message _ m = false
 
--- Returns whether what is read of a datagram is such a write.
+-- Returns whether a datagram is such a write, from the result of reading it.
 abbrev pub is_write_reading : Result Message Unread → Bool
 is_write_reading (Err fault) = false
 is_write_reading (Ok m) = is_write_message (role_of m.kind m.code) m

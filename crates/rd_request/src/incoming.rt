@@ -1,5 +1,4 @@
-//! What a datagram is to the directory. Datagrams are read here and nowhere else (RFC 7252 section
-//! 4).
+//! What a datagram is to the directory. Only this module reads datagrams (RFC 7252 section 4).
 ghost use Rattle.std.specs.Prelude.{◌≡◌, ◌&&◌, ℕ, not, true, List, Ok};
 ghost use Rattle.message_model.specs.Reading.{reading};
 ghost use Rattle.message_model.specs.Spelling.{spelling};
@@ -36,9 +35,8 @@ pub enum Incoming<'a> {
     Response(View<'a>),
     /// A request that is refused by its content alone.
     Refused(View<'a>, Refused),
-    /// A look: a discovery, or a first block of a read of a registration, or a first block of a
-    /// lookup that neither begins nor ends an observation. The registrations alone determine its
-    /// answer.
+    /// A look: a discovery, a first block of a read of a registration, or a first block of a lookup
+    /// that neither begins nor ends an observation. The registrations alone determine its answer.
     Look(Request<'a>),
     /// Any other lookup.
     Lookup(Request<'a>),
@@ -86,7 +84,7 @@ fn on_location(request: Request<'_>) -> Incoming<'_>
     Incoming::Write(request)
 }
 
-/// Returns what a request that is not refused by its content alone is, by its resource.
+/// Returns what a request is, by its resource. The request is not refused by its content alone.
 fn served(request: Request<'_>) -> Incoming<'_>
     ensures { (datagram : List ℕ)
         → IsFor role.Request datagram (message_of request.entry)
@@ -144,7 +142,7 @@ pub fn read_datagram(datagram: &[u8]) -> Incoming<'_>
     }
 }
 
-/// Returns whether it is a look.
+/// Returns whether a datagram that was read is a look.
 fn looks(incoming: &Incoming<'_>) -> bool
     ensures { result ≡ looks incoming.now }
 {
@@ -164,7 +162,7 @@ fn looks(incoming: &Incoming<'_>) -> bool
 }
 
 /// Returns whether a datagram is a look, a request whose answer the registrations alone determine.
-/// That is a discovery, or a first block of a read of a registration, or a first block of a lookup
+/// A look is a discovery, a first block of a read of a registration, or a first block of a lookup
 /// that neither begins nor ends an observation. A request that is refused is not a look.
 pub fn is_look(datagram: &[u8]) -> bool
     ensures { result ≡ is_look_datagram datagram.now }

@@ -28,7 +28,7 @@ pub struct KeptRequest {
     token: Token,
     /// The options as they were encoded, followed by the payload.
     octets: Bytes,
-    /// How many of the octets belong to options.
+    /// The number of octets that belong to options.
     options: usize,
     /// The resource that its path names.
     path: Path,
@@ -132,7 +132,7 @@ impl KeptRequest {
         })
     }
 
-    /// Returns its message.
+    /// Returns the message of the request.
     fn view(&self) -> View<'_>
         ensures { message_in result ≡ self.now }
     {

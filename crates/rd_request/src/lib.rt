@@ -1,5 +1,6 @@
-//! What a datagram is to the directory: what its request asks, the first refusal that it alone
-//! decides, and the resource that it is about (RFC 7252 section 4, RFC 9176 sections 4 to 6).
+//! What a datagram is to the directory. For a request, this includes what it asks, the resource
+//! that it is about, and the first refusal that it alone decides (RFC 7252 section 4, RFC 9176
+//! sections 4 to 6).
 #![tactic(auto)]
 
 mod accepted;

@@ -13,7 +13,7 @@ use query_text::faultless_lookup_query;
 use rd_base::{Query, Starved};
 use std::alloc::Global;
 
-/// Returns the query of a lookup or a discovery. Its options are not judged again.
+/// Returns the query of a lookup or a discovery. Does not check its query options again.
 ///
 /// # Requires
 ///

@@ -13,7 +13,7 @@ use query_text::faultless_reg_params;
 use rd_base::{RegParams, Starved};
 use std::alloc::Global;
 
-/// Returns the parameters of a registration, or of a simple one. They are not judged again.
+/// Returns the parameters of a registration, or of a simple one. Does not check them again.
 ///
 /// # Requires
 ///

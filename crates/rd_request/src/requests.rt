@@ -18,8 +18,8 @@ use message_model::Block;
 use message_model::codes::POST;
 use query_text::{Reading, fault};
 
-/// Returns how to read the query options of a request: as those of a lookup, a registration or an
-/// update.
+/// Returns how to read the query options of a request: as those of a lookup, a simple registration,
+/// a registration or an update. Returns `None` if they are not read.
 fn reading_of(path: &Path, code: u8) -> Option<Reading>
     ensures { result ≡ requests_of.reading_of path.now code }
 {
@@ -34,8 +34,8 @@ fn reading_of(path: &Path, code: u8) -> Option<Reading>
     }
 }
 
-/// Returns how to read the query options of a request to a registration. Only an update has any;
-/// those of a read, a replacement and a removal are ignored.
+/// Returns how to read the query options of a request to a registration. An update alone uses them.
+/// Those of a read, a replacement and a removal are ignored.
 fn reading_on_location(code: u8) -> Option<Reading>
     ensures { result ≡ requests_of.reading_on_location (requests_of.method_of code) }
 {
@@ -107,8 +107,8 @@ pub fn begins_observation(observe: Option<u32>) -> bool
     }
 }
 
-/// Returns whether the request has a payload where none is allowed: with an update or a simple
-/// registration (RFC 9176 sections 5.1 and 5.3.1).
+/// Returns whether the request has a payload although it must have none. Updates and simple
+/// registrations must have none (RFC 9176 sections 5.1 and 5.3.1).
 fn has_bad_payload(meaning: &Meaning<'_>) -> bool
     ensures { result ≡ requests_of.has_bad_payload (message_in meaning.now.view) }
 {
@@ -132,11 +132,11 @@ fn takes_no_payload(path: &Path, code: u8) -> bool
 /// A refusal that depends on the request alone.
 #[derive(Clone, Copy, Debug)]
 pub enum Refused {
-    /// Refused for its options, its path, its method, a block or a format.
+    /// The request is refused for its options, its path, its method, a block or a format.
     Request(Refusal),
-    /// Refused for its query options.
+    /// The request is refused for its query options.
     Query,
-    /// Refused for its payload.
+    /// The request is refused for its payload.
     Payload,
 }
 

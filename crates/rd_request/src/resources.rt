@@ -35,7 +35,8 @@ pub(crate) fn resource_at(path: &Path) -> Option<Resource>
     }
 }
 
-/// Returns the kind of what a lookup at a resource seeks. It is a discovery at any other resource.
+/// Returns the kind of what a lookup at a resource seeks. For a resource without lookups, returns
+/// that of a discovery.
 pub(crate) fn kind_at(resource: &Resource) -> Kind
     ensures { result ≡ resources.kind_at resource.now }
 {

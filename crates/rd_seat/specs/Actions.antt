@@ -41,8 +41,8 @@ action_row rows place mids a starved =
 
 -- ---- what an action requires
 
--- States that the moment of the action is at most 10^15, and that its datagram, if it has one, is
--- not a look and was read.
+-- States that the moment of the action is at most 10^15 milliseconds. If the action handles a
+-- datagram, the datagram is not a look, and was read.
 abbrev pub IsReady : Action → Type 0
 IsReady (action.Admit a) =
     (a.moment.0 ≤ 10 ^ 15)
@@ -52,8 +52,8 @@ IsReady (action.Commit moment j) = moment.0 ≤ 10 ^ 15
 IsReady (action.Keep moment j) = moment.0 ≤ 10 ^ 15
 IsReady (action.Tick moment word) = moment.0 ≤ 10 ^ 15
 
--- States that the admission of the write that the action does, if it does one, has this place in
--- what the seat has seen, and is open.
+-- States that if the action does a write, the admission of the write has this place in what the
+-- seat has seen. The admission is open.
 abbrev pub OpensAt : ℕ → SeatSeen → Action → Type 0
 OpensAt place seat (action.Commit moment j) = IsOpenJob place seat j
 OpensAt place seat _ = Unit {0}
@@ -64,11 +64,13 @@ pub record IsOpenIn (rows : List Row) (place : ℕ) (j : Write) : Type 0 where
   pub read : reading j.datagram ≡ Ok message
   pub is_open : IsOpen place j.peer message.mid j.admitted (events rows)
 
+-- States that if the action does a write, the admission of the write has this place in a journal,
+-- and is open.
 abbrev pub OpensIn : List Row → ℕ → Action → Type 0
 OpensIn rows place (action.Commit moment j) = IsOpenIn rows place j
 OpensIn rows place _ = Unit {0}
 
--- An action whose step the desk may be called for after a journal.
+-- An action that may be taken on the desk after a journal.
 pub record MayAct (rows : List Row) (place : ℕ) (s : Step) (a : Action) (mids : Mids)
     (desk : Shown PublisherSeen) : Type 0 where
   pub called : IsCalled rows s s.handed mids desk.tables
@@ -82,12 +84,15 @@ abbrev pub HoldsFor : Action → Admitted → List Note → Step → ℕ → Typ
 HoldsFor (action.Admit a) result notes s moment = IsHeldFor result notes s moment
 HoldsFor _ result notes s moment = Unit {0}
 
+-- States that the seat's last row leaves the job of the write that the action admits, or no job if
+-- it admits none. The admission is open at the place of that row.
 abbrev pub LeavesJobOf : Action → Admitted → SeatSeen → Type 0
 LeavesJobOf (action.Admit a) result seat = LeavesJob result seat.seen × OpensJob result seat
 LeavesJobOf _ result seat = Unit {0}
 
 -- An action that was taken on the desk. The desk made the row of its step. The board still exposes
--- the entries before it. If nothing was staged, the version with its entry is, if it made one.
+-- the entries before it. If nothing was staged before and the step made an entry, the version with
+-- that entry is staged.
 pub record HasActed (rows : List Row) (s : Step) (starved : Bool) (a : Action) (result : Admitted)
     (mids : Mids) (before after : Shown PublisherSeen) (sent : List (Peer × List ℕ)) (drew : Mids)
     : Type 0 where

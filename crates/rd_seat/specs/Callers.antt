@@ -19,6 +19,7 @@ pub record ClockSeen : Type 0 where
   pub times : Option (List Moment)
   pub words : Option (List ℕ)
 
+-- Returns what a clock shows.
 abbrev pub clock_seen : {T : Type 0} → clocks.Ghosts T → T → ClockSeen
 clock_seen g clock = record { times = g.times clock; words = g.words clock }
 
@@ -27,10 +28,11 @@ pub record CallerSeen : Type 0 where
   pub seat : SeatSeen
   pub clock : ClockSeen
 
+-- Returns what a caller with this seat and clock has.
 abbrev pub caller_seen : {C : Type 0} → clocks.Ghosts C → SeatSeen → C → CallerSeen
 caller_seen g seat clock = record { seat = seat; clock = clock_seen g clock }
 
--- What calls did to the seat, with the moments and words that the clock returned.
+-- The effect of calls on the seat, with the moments and random words that the clock returned.
 pub record CallsMade {S : Type 0} (told : S → List Datagram) (calls : List (Call S))
     (before after : CallerSeen) : Type 0 where
   pub seat : Chain (λ old c new. Does told old c new) before.seat calls after.seat

@@ -22,8 +22,8 @@ use Rattle.rd_seat.specs.Seats.{SeatSeen, IsOfHall, MakesStep, LooksAtMet}
 
 -- ---- one call
 
--- A call of the seat: its step, and whether it ran out of memory. It also has its output in the
--- caller's own form, and the job that it left to the caller.
+-- A call of the seat: its step, and whether it ran out of memory. It also has the output in the
+-- caller's own form, and the job that the call left to the caller.
 pub record Call (S : Type 0) : Type 0 where
   pub step : Step
   pub starved : Bool
@@ -42,7 +42,7 @@ job_kept (Some found) s =
     Some (record { kind = step.Keep found.body found.tag; peer = s.peer; datagram = s.datagram })
 
 -- A call that made a row at a turn of the seat, which still belongs to its hall. The caller's
--- output is what the row sent: `told` says which datagrams that is.
+-- output is what the row sent. `told` returns the datagrams of that output.
 pub record Rowed {S : Type 0} (told : S → List Datagram) (before : SeatSeen) (c : Call S)
     (after : SeatSeen) : Type 0 where
   pub of_hall : IsOfHall before.hall after
@@ -101,13 +101,14 @@ job_at place (job.Keep j) = record {
 abbrev pub GivesMoment : {S : Type 0} → List Moment → Call S → List Moment → Type 0
 GivesMoment before c now = GivesFirst (record { 0 = 0 }) c.step.handed before now
 
--- States which words steps take from the clock. A datagram and a tick take a word, which a look
--- does not use; a job takes none.
+-- States which random words steps take from the clock. A datagram and a tick take one, which a look
+-- does not use. A job takes none.
 abbrev pub GivesWordTo : StepKind → ℕ → List ℕ → List ℕ → Type 0
 GivesWordTo step.Admit word before now = GivesFirst 0 word before now
 GivesWordTo step.Look word before now = now ≡ but_first before
 GivesWordTo step.Tick word before now = GivesFirst 0 word before now
 GivesWordTo _ word before now = now ≡ before
 
+-- States which random words a call took from the clock.
 abbrev pub GivesWord : {S : Type 0} → List ℕ → Call S → List ℕ → Type 0
 GivesWord before c now = GivesWordTo c.step.kind c.step.word before now

@@ -17,13 +17,13 @@ use Rattle.version_board.specs.Ends.{PublisherSeen}
 use Rattle.rd_seat.specs.declared.shared_desk.SharedDesk.{SharedDesk}
 use Rattle.rd_seat.specs.Turns.{IsDeskRow, IsPublished}
 
--- The rows of a hall between two turns. They are one history: each is the row of a step of the desk
--- after those before it, and none is of a look. The registrations are the replay of their entries,
--- which is legal and contains each accepted request once, despite duplicates. An observer that is
--- not due was last sent the current listing. Equal tags mean one state. Answers whose bodies were
--- built in these rows are what the headline says, along with all that it says of moments, answers,
--- observers, fetches and kept answers (`WholeDeskHeadline`). The published version stands for the
--- same entries.
+-- The rows of a hall between two turns, which are one history. Each is the row of a step of the
+-- desk after those before it, and none is of a look. The registrations are the replay of their
+-- entries. The replay is legal and contains each accepted request once, despite duplicates. An
+-- observer that is not due was last sent the current listing. Equal tags mean one state. The
+-- headline holds of answers whose bodies were built in these rows. It also holds of moments,
+-- answers, observers, fetches and kept answers (`WholeDeskHeadline`). The published version stands
+-- for the same entries.
 pub record IsHistoryOfHall (rows : List Row) (desk : Shown PublisherSeen) : Type 0 where
   pub journal : IsDeskJournal rows
   pub no_look : AllByRecursion IsDeskRow rows
@@ -31,8 +31,8 @@ pub record IsHistoryOfHall (rows : List Row) (desk : Shown PublisherSeen) : Type
   pub headline : WholeDeskHeadline rows
   pub published : IsPublished (entries rows) desk.board
 
--- States that the rule of the turn holds of a hall of this many workers, between any two steps on
--- the lock's word and slot. By the ghosts, the desk replays its rows.
+-- States that the rule of the turn holds of a hall with this many workers. It holds between any two
+-- steps on the lock's word and slot. By the ghosts, the desk replays its rows.
 abbrev pub KeptByHall : Ghosts SharedDesk Row (List ℕ) → List ℕ → ℕ
     → State (Option SharedDesk) (View Row (List ℕ)) → Type 0
 KeptByHall g name workers s = Kept g.stands g.number g.label name workers s

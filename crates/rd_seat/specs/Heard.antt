@@ -20,11 +20,12 @@ is_starved_hearing heard.Done = false
 is_starved_hearing (heard.Held j) = false
 is_starved_hearing heard.Starved = true
 
--- Returns the body that is left to be kept, if there is one.
+-- Returns the body that a job is to keep, or `None` if the job is a write.
 abbrev pub answer_in : Job → Option Answer
 answer_in (job.Write j) = None
 answer_in (job.Keep j) = Some j.answer
 
+-- Returns the body that a datagram leaves to be kept, if there is one.
 abbrev pub answer_left : SeatHeard → Option Answer
 answer_left heard.Done = None
 answer_left (heard.Held j) = answer_in j
@@ -35,21 +36,24 @@ abbrev pub IsKeep : Peer → List ℕ → Job → Type 0
 IsKeep peer datagram (job.Write j) = ⊥
 IsKeep peer datagram (job.Keep j) = (j.peer ≡ peer) × (j.datagram ≡ datagram)
 
+-- States that a job, if one is left, is to keep a body, and belongs to this peer and this datagram.
 abbrev pub IsKeepOf : Peer → List ℕ → SeatHeard → Type 0
 IsKeepOf peer datagram (heard.Held j) = IsKeep peer datagram j
 IsKeepOf peer datagram _ = Unit {0}
 
--- States that the last row leaves this write to the worker, or no job.
+-- States that the job is a write, and the last row leaves it to the worker.
 abbrev pub LeavesAs : Job → List Row → Type 0
 LeavesAs (job.Write j) rows = LeavesJob (admitted.Held j) rows
 LeavesAs (job.Keep j) rows = ⊥
 
+-- States that the last row leaves this write to the worker, or no job.
 abbrev pub LeavesWrite : SeatHeard → List Row → Type 0
 LeavesWrite heard.Done rows = LeavesJob admitted.Done rows
 LeavesWrite (heard.Held j) rows = LeavesAs j rows
 LeavesWrite heard.Starved rows = LeavesJob admitted.Starved rows
 
--- States that the admission of a write has this place in what the seat has seen, and is open.
+-- States that if the job is a write, its admission has this place in what the seat has seen, and is
+-- open.
 abbrev pub IsOpenWrite : ℕ → SeatSeen → Job → Type 0
 IsOpenWrite place seat (job.Write j) = IsOpenJob place seat j
 IsOpenWrite place seat (job.Keep j) = Unit {0}

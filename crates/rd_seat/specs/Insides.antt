@@ -38,9 +38,9 @@ seat_shown pass looker mids last = record {
 }
 
 -- A seat at rest. Its pass does not hold the turn and has the worker's number. The rows of the pass
--- are those of the worker in the journal that it has seen, and each row there is of one of the
--- hall's workers. The looker is of the hall's board and has met all entries that the pass has seen.
--- What it met is no later than the seat's last row or look.
+-- are those of the worker in the journal that it has seen. Each row there is of one of the hall's
+-- workers. The looker is of the hall's board and has met all entries that the pass has seen. What
+-- it met is no later than the seat's last row or look.
 pub record IsAtRest {T : Type 0} {g : Ghosts T Row (List ℕ)} (pass : Pass T Row (List ℕ) g)
     (looker : LookerSeen) (mids : Mids) (last : Moment) : Type 0 where
   pub idle : is_holding pass ≡ false
@@ -52,8 +52,8 @@ pub record IsAtRest {T : Type 0} {g : Ghosts T Row (List ℕ)} (pass : Pass T Ro
   pub in_time : last_moment looker.seen ≤ last.0
   pub drawn : mids.drawn < 2 ^ 64
 
--- The parts of a new seat: a pass that has seen nothing, and a looker of its lock's board that has
--- seen nothing.
+-- The parts of a new seat: a pass that has seen nothing, and a looker that has seen nothing. The
+-- looker is of the board of the pass's lock.
 pub record IsNewSeat {T : Type 0} {g : Ghosts T Row (List ℕ)} (hall : HallSeen) (worker : ℕ)
     (pass : Pass T Row (List ℕ) g) (looker : LookerSeen) : Type 0 where
   pub fresh : IsNew (label_of pass) (passes_of pass) worker pass

@@ -10,7 +10,7 @@ use Rattle.rd_desk.specs.declared.admitted.Admitted.TheVariants as admitted
 use Rattle.rd_seat.specs.Seats.{SeatSeen}
 use Rattle.rd_seat.specs.Steps.{commit_step}
 
--- The open admission of a job: the seat itself admitted the write, at a place of the journal that
+-- The open admission of a job. The seat itself admitted the write, at a place of the journal that
 -- it has seen, and nothing there has ended it.
 pub record IsOpenJob (place : ℕ) (seat : SeatSeen) (j : Write) : Type 0 where
   pub opened : IsOpenFor (commit_step seat.worker place (record { 0 = 0 }) j.peer j.datagram 0)

@@ -21,8 +21,9 @@ HasMetOnly history before after = (after.seen ≡ before.seen) ⊎ (after.seen �
 
 module _ {T : Type 0} {g : Ghosts T Row (List ℕ)} where
   -- The beginning of a turn. The pass holds the turn and has seen the current journal, which
-  -- continues what it had seen with rows of others. The looker has met what is published. Of that
-  -- and any prefix that it had met, one is a prefix of the other.
+  -- continues what it had seen with rows of others. The looker has met what is published. Any
+  -- prefix that the looker had met agrees with what is published: one of the two is a prefix of the
+  -- other.
   pub record HasBegun (before after : Pass T Row (List ℕ) g) (was looker : LookerSeen)
       (desk : Shown PublisherSeen) : Type 0 where
     pub lock : lock_of after ≡ lock_of before

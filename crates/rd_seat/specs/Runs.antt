@@ -12,13 +12,13 @@ use Rattle.journal_model.specs.Seats.{IsSeat}
 use Rattle.rd_seat.specs.Seats.{HallSeen, SeatSeen, seat_of, new_seat}
 use Rattle.rd_seat.specs.Seats.{MakesStep, LooksAtMet}
 
--- The result of one call of a seat. It is a step at its turn, which made a row, or a look from a
--- prefix, by a seat that had seen a journal.
+-- The result of one call of a seat. The call is a step at its turn, which made a row, or a look. A
+-- look has the journal that the seat had seen, and the prefix that answered it.
 pub data Call : Type 0 where
   turn : Row → Call
   look : List Row → List Entry → Call
 
--- A seat after calls, the latest first, for each of which its contract holds. It began as a new
+-- A seat after calls, the latest first. The contract of each call holds. The seat began as a new
 -- seat. A step left its row as the last one that is seen. A look was answered from what is met
 -- after it.
 pub data HasCalled (hall : HallSeen) (worker : ℕ) : List Call → SeatSeen → Type 0 where
@@ -55,8 +55,8 @@ FrontsGoOn (look seen front ∷ calls) = IsFront (entries seen) front
     × AllByRecursion (λ earlier. IsFront earlier front) (fronts_shown calls) × FrontsGoOn calls
 
 -- A seat after any calls, which is a seat of the journal. Its own rows are those of its worker in
--- what it has seen, each once and in order, and exactly the rows that its calls made. The prefixes
--- of its looks continue what it had seen, and each other.
+-- what it has seen, each once and in order. They are exactly the rows that its calls made. The
+-- prefixes of its looks continue what it had seen, and each other.
 pub record IsSeatAfter (calls : List Call) (seat : SeatSeen) : Type 0 where
   pub shown : List (List Entry)
   pub front : List Entry
@@ -64,7 +64,7 @@ pub record IsSeatAfter (calls : List Call) (seat : SeatSeen) : Type 0 where
   pub rows : seat.mine ≡ rows_made calls
   pub fronts : FrontsGoOn calls
 
--- States that each seat is such a seat, whatever its calls.
+-- States that each seat after calls for which the contracts hold is such a seat.
 abbrev pub SeatsAreSeats : Type 0
 SeatsAreSeats = (hall : HallSeen) (worker : ℕ) (calls : List Call) (seat : SeatSeen)
     → HasCalled hall worker calls seat → IsSeatAfter calls seat

@@ -33,8 +33,8 @@ pub record SeatSeen : Type 0 where
   -- How many Message IDs its rows and looks drew, modulo 2^64.
   pub drawn : ℕ
 
--- Returns the seat with what no code stores: the prefixes that it showed since its last turn, and
--- the prefix of its last look.
+-- Returns the seat with two things that no code stores: the prefixes that it showed since its last
+-- turn, and the prefix of its last look.
 abbrev pub seat_of : SeatSeen → List (List Entry) → List Entry → Seat
 seat_of s shown front = record {
   worker = s.worker;

@@ -15,8 +15,8 @@ use Rattle.version_board.specs.Ends.{PublisherSeen}
 abbrev pub IsDeskRow : Row → Type 0
 IsDeskRow r = is_look r.step.kind ≡ false
 
--- The rows that a desk made at turns: a journal of a desk without looks, in which no moment is
--- later than that of the last row.
+-- The rows that a desk made at turns. They are a journal of a desk without looks, in which no
+-- moment is later than that of the last row.
 pub record AreTurns (rows : List Row) : Type 0 where
   pub journal : IsDeskJournal rows
   pub no_look : AllByRecursion IsDeskRow rows
@@ -62,9 +62,11 @@ published_with (Some version) entry p = record {
   staged = None;
 }
 
+-- Returns a board after its own staged version was published, if there was one.
 abbrev pub published_after : Entry → PublisherSeen → PublisherSeen
 published_after entry p = published_with p.staged entry p
 
+-- Returns a desk whose board published its staged version, if there was one.
 abbrev pub board_published : Entry → Shown PublisherSeen → Shown PublisherSeen
 board_published entry desk = record {
   tables = desk.tables;

@@ -13,13 +13,13 @@ use version_board::Publisher;
 /// What a worker does at its turn.
 #[derive(Drop)]
 pub(crate) enum Action<'a> {
-    /// It handles a datagram that is not a look.
+    /// Handles a datagram that is not a look.
     Admit(Arrival<'a>),
-    /// It does an admitted write at this moment.
+    /// Does an admitted write at this moment, in milliseconds.
     Commit(Moment, WriteJob),
-    /// It keeps a listing or a source at this moment.
+    /// Keeps a listing or a source at this moment, in milliseconds.
     Keep(Moment, KeepJob),
-    /// It lets time pass at this moment, with this random word.
+    /// Lets time pass to this moment, in milliseconds, with this random word.
     Tick(Moment, u32),
 }
 
@@ -34,8 +34,7 @@ fn of_step(stepped: Stepped) -> Admitted
     }
 }
 
-/// Returns how the step of an action ended that leaves no job.
-#[inline(always)]
+/// Returns the result of a step that leaves no job, without the case of a job.
 pub(crate) fn without_job(admitted: Admitted) -> Stepped
     ensures { is_starved_step result ≡ is_starved_admission admitted }
 {
@@ -58,9 +57,8 @@ pub(crate) fn is_starved(admitted: &Admitted) -> bool
     }
 }
 
-/// Whom the end of the turn wakes: nobody where this worker has a job now, for which it takes the
-/// turn again.
-#[inline(always)]
+/// Returns which worker the end of the turn wakes. It wakes none if this worker now has a job,
+/// since the worker then takes the turn again to do it.
 pub(crate) fn wake_after(admitted: &Admitted) -> Wake {
     match admitted {
         Admitted::Held(_) => Wake::Nobody,
@@ -68,8 +66,7 @@ pub(crate) fn wake_after(admitted: &Admitted) -> Wake {
     }
 }
 
-/// Takes the action on the desk.
-#[inline(always)]
+/// Takes the action on the desk. Puts the responses into `out`, which is empty.
 pub(crate) fn act(
     desk: &mut Desk<Publisher>,
     mids: &mut Mids,

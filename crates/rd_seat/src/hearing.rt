@@ -25,7 +25,7 @@ use std::sync::Wait;
 /// The result of a datagram that a seat handled.
 #[derive(Drop)]
 pub enum SeatHeard {
-    /// The datagram is done with.
+    /// The datagram is done with. It leaves no job.
     Done,
     /// The worker has this job. The seat's next step other than a tick does it.
     Held(Job),
@@ -130,14 +130,17 @@ impl Seat {
     }
 
     /// Does a job at a turn of the seat, after waiting for the turn, and puts the response into
-    /// `out`. After `Starved` (out of memory), the request has been answered 5.00 and the
-    /// registrations have not changed (RFC 7252 section 5.9.3.1).
+    /// `out`.
+    ///
+    /// A `now` (in milliseconds) earlier than the directory's moment is raised to it. After
+    /// `Starved` (out of memory), the request has been answered 5.00 and the registrations have not
+    /// changed (RFC 7252 section 5.9.3.1).
     ///
     /// # Requires
     ///
-    /// The seat is of this hall, `now` is at most 10^15 milliseconds, and `out` is empty. The
-    /// admission of a write has a place in the journal that the seat has seen, and nothing there
-    /// has ended it.
+    /// The seat is of this hall, `now` is at most 10^15 milliseconds, and `out` is empty. If the
+    /// job is a write, its admission has a place in the journal that the seat has seen, and nothing
+    /// there has ended it.
     pub fn go<R: Wait, G: Gate>(
         &mut self,
         rt: &R,

@@ -1,4 +1,4 @@
-//! Publishing what a step staged, and meeting it.
+//! The publication of what a step staged, which the looker then meets.
 ghost use Rattle.std.specs.Prelude.{◌≡◌, ◌⊎◌, ◌∷◌, ◌++◌, [], List, IfSome};
 ghost use Rattle.history_model.specs.declared.entries.Entry.{Entry};
 ghost use Rattle.history_model.specs.Live.{IsFront};
@@ -35,7 +35,7 @@ pub(crate) fn publish_made<E: Entering, R: Wait>(rt: &R, desk: &mut Desk<Publish
     publish_staged::<E, R>(rt, desk.board());
 }
 
-/// Lets the looker meet what is published.
+/// Lets the looker meet what is published, so that later looks include it.
 pub(crate) fn meet(looker: &mut Looker, desk: &mut Desk<Publisher>)
     requires { looker.old.name ≡ desk.old.board.name }
     ensures desk { desk.new ≡ desk.old }

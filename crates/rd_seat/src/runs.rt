@@ -23,9 +23,9 @@ pub fn rows_are_of_seats()
 {}
 
 /// States a law of a seat after any calls. Its own rows are those of its worker in the journal that
-/// it has seen, each once and in order, and exactly the rows that its calls made. Each look was
-/// answered from a history that begins with all that the seat had seen, and with the histories of
-/// its earlier looks.
+/// it has seen, each once and in order. They are exactly the rows that its calls made. Each look
+/// was answered from a history. That history begins with all that the seat had seen, and with the
+/// histories of its earlier looks.
 pub fn seats_are_seats()
     ensures { SeatsAreSeats }
 {}

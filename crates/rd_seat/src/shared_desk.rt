@@ -13,6 +13,7 @@ pub struct SharedDesk {
 }
 
 impl Replays for SharedDesk {
+    /// The row of a step of the desk.
     type Row = journal_model::Row;
 
     /// The name of the board.

@@ -35,7 +35,7 @@ impl Share {
     }
 
     /// Publishes what the step made, meets it, and gives the turn back with the row. `_parts` has
-    /// all parts of the row, from which the caller's contract names the row.
+    /// all parts of the row: the caller's contract names the row from them.
     pub(crate) fn give<S: Added<Row>, E: Entering, R: Wait, G: Gate, P>(
         &mut self,
         rt: &R,

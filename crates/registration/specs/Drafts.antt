@@ -1,4 +1,4 @@
--- Drafts: what parameters and submitted links make, and the record that a draft becomes (RFC 9176
+-- Drafts, made of parameters and submitted links, and the records that they become (RFC 9176
 -- section 5).
 use Rattle.std.specs.Prelude.{◌≡◌, ⊤, ℕ, Bool, false, ◌&&◌, List, Some, is_some}
 use Rattle.rd_base.specs.Peers.{IsHost}
@@ -19,7 +19,7 @@ use Rattle.registration.specs.declared.drafts.Draft.{Draft}
 use Rattle.registration.specs.declared.drafts.DraftFault.{DraftFault}
 use Rattle.registration.specs.declared.drafts.DraftFault.TheVariants as fault
 
--- the draft of a registration from a peer, with these parameters and these links
+-- Returns the draft of a registration from a peer, with these parameters and these links.
 unfoldable pub drafted : Peer → RegParams → List SubmittedLink → Draft
 drafted peer params links = record {
   name = params.name;
@@ -30,7 +30,7 @@ drafted peer params links = record {
   items = items_of (registered_base params.base peer) links;
 }
 
--- the record that a draft becomes under a number, at a moment
+-- Returns the record that a draft becomes under a number, granted at a moment.
 unfoldable pub recorded : ℕ → Moment → Draft → Record
 recorded number now draft = record {
   number = number;
@@ -43,13 +43,13 @@ recorded number now draft = record {
   items = draft.items;
 }
 
--- the target of an item is a URI-reference as it was submitted, and so is its anchor, where it has
--- one
+-- Returns whether the target of a link is a URI-reference as it was submitted, and also its anchor
+-- if it has one.
 abbrev pub has_references : Item → Bool
 has_references item = is_reference item.target_ref && where_present is_reference item.anchor_ref
 
--- a draft that a registration can give: of a peer whose numbers fit, of parameters that are
--- allowed, and of the links of a body that is not refused (RFC 9176 section 5)
+-- States that a registration can give the draft (RFC 9176 section 5). It comes from a peer whose
+-- numbers fit, has allowed parameters, and has the links of a body that is not refused.
 pub record IsDraft (draft : Draft) : Type 0 where
   pub peer : Peer
   pub params : RegParams
@@ -61,7 +61,7 @@ pub record IsDraft (draft : Draft) : Type 0 where
   pub limited : is_refused_as_limited body ≡ false
   pub made : draft ≡ drafted peer params links
 
--- the answer is the fault of the body; running out of memory has no cause in it
+-- States that the answer is the fault of the body. Running out of memory has no cause in the body.
 abbrev pub IsFaultOf : List ℕ → DraftFault → Type 0
 IsFaultOf body (fault.Links offset) = body_fault body ≡ Some (no_document offset)
 IsFaultOf body (fault.Reference offset) = body_fault body ≡ Some (no_reference offset)

@@ -1,8 +1,8 @@
--- drafts, and the records that they become (RFC 9176 section 5)
+-- Drafts, and the records that they become (RFC 9176 section 5).
 pub mod Drafts
--- links as they were submitted (RFC 6690 section 2)
+-- Links as they were submitted (RFC 6690 section 2).
 pub mod Submissions
--- what these are made of
+-- The definitions that these are made of.
 pub mod LinkParameters
 pub mod References
 pub mod Links

@@ -1,4 +1,4 @@
--- What is gathered of a link's parameters, where some of them are left (RFC 6690 sections 2 and 3).
+-- The result of reading some of the parameters of a link (RFC 6690 sections 2 and 3).
 use Rattle.std.specs.Prelude.{
   ◌≡◌,
   ℕ,
@@ -23,26 +23,28 @@ use Rattle.link_model.specs.Quoting.{is_anchor, pair_of}
 use Rattle.registration.specs.declared.link_parameters.Anchor.{Anchor}
 use Rattle.registration.specs.declared.link_parameters.Gathered.{Gathered}
 
--- the parameters that are no anchors
+-- Returns the parameters that are no anchors.
 abbrev pub without_anchors : List Parameter → List Parameter
 without_anchors parameters = filter (λ p. not (is_anchor p)) parameters
 
--- an anchor with its offset, where there is one
+-- Returns an anchor with its offset, if there is one.
 abbrev pub anchor_at_offset : Option Anchor → List TextAtOffset
 anchor_at_offset None = []
 anchor_at_offset (Some anchor) = (anchor.offset, anchor.text) ∷ []
 
--- the anchor that is known, and else the first of those that are left, which begin at this octet
+-- Returns the known anchor, or else the first of the parameters that are left, which begin at this
+-- octet.
 abbrev pub anchor_from : Option Anchor → ℕ → List Parameter → List TextAtOffset
 anchor_from (Some anchor) start rest = anchor_at_offset (Some anchor)
 anchor_from None start rest = shifted start (anchor_offset rest)
 
--- the next link has no attribute yet
+-- States that the next link has no attribute yet.
 abbrev pub WaitsForNone : Drafted → Type 0
 WaitsForNone d = (d.raw ≡ []) × (d.pairs ≡ [])
 
--- this is what all parameters say but for those that are left, where the first of all begins at
--- `start`, behind other links
+-- States that `g` is the result of reading all parameters except those that are left. `before` is
+-- the links before, and `start` is the offset in octets at which the first of all parameters
+-- begins.
 pub record IsGathered (before : List Item) (start : ℕ) (all rest : List Parameter) (g : Gathered) :
     Type 0 where
   pub links : g.builder.links ≡ before

@@ -1,4 +1,5 @@
--- Links read one after another: the first fault of those that are left, and what is read.
+-- The links of a document, read one after another: the result, or the first fault of those that are
+-- left.
 use Rattle.std.specs.Prelude.{
   ◌≡◌,
   ⊤,
@@ -57,15 +58,17 @@ use Rattle.registration.specs.declared.link_parameters.Anchor.{Anchor}
 use Rattle.registration.specs.declared.links.Read.{Read}
 use Rattle.registration.specs.declared.references.Referred.{Referred}
 
--- what links take in a document, each with one octet more for a comma
+-- Returns the number of octets of links in a document, each with one octet more for a comma.
 abbrev pub room_of : List Link → ℕ
 room_of links = sum_by (λ l. length (link_text l) + 1) links
 
--- the octet where the first of these begins that is no reference
+-- Returns the offset at which the first of these texts begins that is no URI-reference, if there is
+-- one.
 abbrev pub first_bad : List TextAtOffset → Option ℕ
 first_bad references = option_map (λ r. r.0) (find (λ r. not (is_reference r.1)) references)
 
--- what is written of an anchor against a base, and whether it has a scheme; a fault has its offset
+-- States what is written for an anchor against a base, and whether the anchor has a scheme. A fault
+-- has the offset of the anchor.
 abbrev pub AnchorReads : Parts → Option Anchor → List ℕ → Result (Option Bool) DraftFault → Type 0
 AnchorReads base None referred (Ok None) = ⊤
 AnchorReads base (Some anchor) referred (Ok (Some has_scheme)) =
@@ -75,8 +78,8 @@ AnchorReads base (Some anchor) referred (Err (fault.Reference offset)) =
 AnchorReads base anchor referred (Err fault.Starved) = ⊤
 AnchorReads base anchor referred _ = ⊥
 
--- a link by its target as it was submitted, its anchor, and both against a base, with the
--- attributes that wait for it
+-- Returns a link with its target and its anchor as they were submitted, both against a base, and
+-- the attributes that wait for it.
 abbrev pub added : List ℕ → Option Anchor → Option Bool → Referred → Drafted → Item
 added target_ref submitted has_scheme referred waiting = record {
   target_ref = target_ref;
@@ -87,7 +90,8 @@ added target_ref submitted has_scheme referred waiting = record {
   pairs = waiting.pairs;
 }
 
--- a link that begins at an octet is read behind other links, and has no fault of its references
+-- States that a link is read, which begins at this octet and comes after other links. Its target
+-- and its anchor are URI-references.
 pub record IsRead (base : Parts) (start : ℕ) (l : Link) (before : List Item) (read : Read) : Type 0
   where
     pub good : first_bad (link_references l) ≡ None
@@ -100,7 +104,8 @@ pub record IsRead (base : Parts) (start : ℕ) (l : Link) (before : List Item) (
     pub limited : read.is_limited ≡ is_limited (submitted_link l)
     pub end : read.end ≡ start + length (link_text l)
 
--- what is read of a link; a fault has the offset of the first reference that is none
+-- States the result of reading a link. A fault has the offset of the first text that is no
+-- URI-reference.
 abbrev pub LinkReads : Parts → ℕ → Link → List Item → Result Read DraftFault → Type 0
 LinkReads base start l before (Ok read) = IsRead base start l before read
 LinkReads base start l before (Err (fault.Reference offset)) =
@@ -108,8 +113,9 @@ LinkReads base start l before (Err (fault.Reference offset)) =
 LinkReads base start l before (Err fault.Starved) = ⊤
 LinkReads base start l before (Err _) = ⊥
 
--- the fault of links of which some are left: of the references left, which begin at an octet, and
--- else the first unlimited link
+-- Returns the fault of links of which some are left, if there is one. It is that of the first text
+-- that is no URI-reference among those left, which begin at this octet. Without such a text, it is
+-- that of the first link that is not limited.
 abbrev pub fault_with : ℕ → ℕ → Option ℕ → Option ℕ → Option ℕ → Option BodyFault
 fault_with start index unlimited (Some offset) later = Some (no_reference (start + offset))
 fault_with start index unlimited None later =
@@ -120,16 +126,16 @@ fault_from start index unlimited links =
     fault_with start index unlimited (first_no_reference links)
     (first_unlimited (map submitted_link links))
 
--- the index of the first link that is not limited, where one link more is read
+-- Returns the index of the first link that is not limited, after one more link is read.
 abbrev pub noted : ℕ → Bool → Option ℕ → Option ℕ
 noted index limited unlimited = or_else unlimited (if limited then None else Some index)
 
--- a link is limited: its target has a scheme, or its anchor has none
+-- Returns whether a link is limited: its target has a scheme, or it has no anchor with a scheme.
 abbrev pub is_limited_as_referred : Bool → Option Bool → Bool
 is_limited_as_referred target None = true
 is_limited_as_referred target (Some anchor) = target || not anchor
 
--- a fault of links
+-- States that this is the fault of the links. Running out of memory has no cause in them.
 abbrev pub IsLinksFault : List Link → DraftFault → Type 0
 IsLinksFault links (fault.Reference offset) =
     reference_or_limited (first_no_reference links) links ≡ Some (no_reference offset)
@@ -138,7 +144,7 @@ IsLinksFault links (fault.Limited link) =
 IsLinksFault links fault.Starved = ⊤
 IsLinksFault links (fault.Links offset) = ⊥
 
--- all links are read, and none has a fault
+-- States that these are the links, read against the base, and that none has a fault.
 pub record AreRead (base : Parts) (links : List Link) (read : List Item) : Type 0 where
   pub good : reference_or_limited (first_no_reference links) links ≡ None
   pub items : (spelled : List ℕ)
@@ -146,18 +152,19 @@ pub record AreRead (base : Parts) (links : List Link) (read : List Item) : Type 
       → read ≡ items_of spelled (map submitted_link links)
   pub references : list_all has_references read ≡ true
 
--- a body is read, and has no fault
+-- States that these are the links of the body, read against the base, and that the body has no
+-- fault.
 pub record IsBody (base body : List ℕ) (read : List Item) : Type 0 where
   pub good : body_fault body ≡ None
   pub items : option_map (items_of base) (linked_references body) ≡ Some read
   pub references : list_all has_references read ≡ true
 
--- what is read of a body, or its fault
+-- States that the result is the links of a body, or its fault.
 abbrev pub BodyReads : List ℕ → List ℕ → Result (List Item) DraftFault → Type 0
 BodyReads base body (Ok items) = IsBody base body items
 BodyReads base body (Err fault) = IsFaultOf body fault
 
--- what is read of links, or their first fault
+-- States that the result is the links, read against the base, or their first fault.
 abbrev pub Reads : Parts → List Link → Result (List Item) DraftFault → Type 0
 Reads base links (Ok items) = AreRead base links items
 Reads base links (Err fault) = IsLinksFault links fault

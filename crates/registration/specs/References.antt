@@ -1,4 +1,4 @@
--- A reference against a base, as an answer (RFC 3986 section 5.2).
+-- The result of writing a reference against a base (RFC 3986 section 5.2).
 use Rattle.std.specs.Prelude.{
   ◌≡◌,
   ⊤,
@@ -21,8 +21,8 @@ use Rattle.record_model.specs.Bodies.{is_reference, is_uri}
 use Rattle.record_model.specs.Records.{based}
 use Rattle.reference_model.specs.References.{IsReference}
 
--- the text is a reference, with a scheme or not, and this is what it is against each base that
--- spells these parts
+-- States that the text is a URI-reference, whether it has a scheme, and that `referred` is the text
+-- against each base that spells these parts.
 pub record IsReferred (base : Parts) (submitted referred : List ℕ) (has_scheme : Bool) : Type 0
   where
     pub reference : is_reference submitted ≡ true
@@ -31,8 +31,8 @@ pub record IsReferred (base : Parts) (submitted referred : List ℕ) (has_scheme
         → IsReference spelled (components_of base)
         → referred ≡ based spelled submitted
 
--- what is written of a text against a base: nothing is said where it is no reference; running out
--- of memory has no cause
+-- States what is written for a text against a base. Says nothing about it if the text is no
+-- URI-reference. Running out of memory has no cause.
 abbrev pub Refers : Parts → List ℕ → List ℕ → Result (Option Bool) Starved → Type 0
 Refers base text referred (Ok None) = is_reference text ≡ false
 Refers base text referred (Ok (Some has_scheme)) = IsReferred base text referred has_scheme

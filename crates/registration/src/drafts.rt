@@ -1,4 +1,4 @@
-//! Drafts of registrations: what one is, how a body makes one, and why a body makes none (RFC 9176
+//! Drafts of registrations: how a body and parameters make one, and why a body makes none (RFC 9176
 //! section 5).
 ghost use Rattle.std.specs.Prelude.{◌≡◌, ℕ, true, Some, None, IfOk, IfErr, IfSome, OnOk, false};
 ghost use Rattle.std.specs.Prelude.{option_map};
@@ -25,7 +25,7 @@ use rd_base::{Items, LinksBuilder, Name, Pairs, Peer, Record, RegParams, Starved
 use ref_resolve::parts_without_query;
 use std::alloc::{AllocFailed, Global};
 
-/// What a registration is before it has a number and a moment (RFC 9176 section 5).
+/// A registration before it has a number and a moment (RFC 9176 section 5).
 #[derive(Debug, Drop)]
 pub struct Draft {
     /// The name of the endpoint.
@@ -34,7 +34,7 @@ pub struct Draft {
     pub lt: u32,
     /// The base against which references are resolved.
     pub base: Text,
-    /// Whether the base was given, and not taken from the source address.
+    /// Whether the base was given, instead of taken from the source address.
     pub base_given: bool,
     /// The extra attributes, in their order.
     pub attrs: Pairs,
@@ -42,19 +42,20 @@ pub struct Draft {
     pub items: Items,
 }
 
-/// Why a body gives no draft. What comes first in this order is answered, over the whole body.
+/// The reason why a body gives no draft. If several apply, the answer is the first of them in this
+/// order, over the whole body. `Starved` can take the place of any.
 #[derive(Clone, Copy, Debug, PartialEq, Eq)]
 pub enum DraftFault {
-    /// The body is no link document (RFC 6690 section 2): the length of its longest prefix that
-    /// begins one, in octets.
+    /// The body is no link document (RFC 6690 section 2). The field is the length of the longest
+    /// prefix that begins one, in octets.
     Links(usize),
-    /// A target or an anchor is no URI-reference (RFC 3986 section 4.1): the octet of the body
-    /// where the first such one begins.
+    /// A target or an anchor is no URI-reference (RFC 3986 section 4.1). The field is the offset in
+    /// the body at which the first such reference begins, in octets.
     Reference(usize),
-    /// A link's anchor has a scheme and its target has none (RFC 9176 appendix C): the index of the
-    /// first such link, counted from 0.
+    /// An anchor has a scheme and the target of its link has none (RFC 9176 appendix C). The field
+    /// is the index of the first such link, counted from 0.
     Limited(usize),
-    /// Out of memory.
+    /// Memory ran out.
     Starved,
 }
 
@@ -64,7 +65,7 @@ impl From<Starved> for DraftFault {
 
     ghost from_gives = { λ _ e. e ≡ fault.Starved };
 
-    /// Out of memory.
+    /// Returns `Starved`.
     fn from(_: Starved) -> DraftFault {
         DraftFault::Starved
     }
@@ -76,13 +77,14 @@ impl<T: Drop> From<AllocFailed<T>> for DraftFault {
 
     ghost from_gives = { λ _ e. e ≡ fault.Starved };
 
-    /// Out of memory.
+    /// Returns `Starved`.
     fn from(_: AllocFailed<T>) -> DraftFault {
         DraftFault::Starved
     }
 }
 
-/// The base of a registration: the one that is given, else that of the peer (RFC 9176 section 5).
+/// Returns the base of a registration: the given one, or that of the peer if none is given (RFC
+/// 9176 section 5).
 #[tactic(auto, using(record_model::proofs::PeerBases::peer_base_is_base))]
 fn registered_base(alloc: Global, given: Option<Text>, peer: Peer) -> Result<Text, Starved>
     requires { IfSome given (λ base. is_base base ≡ true) }
@@ -96,7 +98,8 @@ fn registered_base(alloc: Global, given: Option<Text>, peer: Peer) -> Result<Tex
     }
 }
 
-/// The links of a body against a base, or its first fault. The empty base is one too.
+/// Returns the links of a body against a base, or the first fault of the body. The base may be
+/// empty.
 fn items_of(alloc: Global, base: &str, body: &[u8]) -> Result<Items, DraftFault>
     requires { is_without_query (reference base.now) ≡ true }
     ensures { BodyReads base.now body.now result }
@@ -112,8 +115,8 @@ fn items_of(alloc: Global, base: &str, body: &[u8]) -> Result<Items, DraftFault>
     }
 }
 
-/// The links of a record, shared, where it has this base and this body is their source: they are
-/// the links of the body then. An error is running out of memory.
+/// Returns the links of a record, shared, if it has this base and this body is the source of its
+/// links. They are then the links of the body. Returns `Starved` if memory runs out.
 fn shared(stored: &Record, base: &Text, body: &[u8]) -> Result<Option<Items>, Starved>
     requires { IsOfBody stored.now }
     ensures { IfOk result (λ items. IfSome items (IsBody base.now body.now)) }
@@ -128,8 +131,8 @@ fn shared(stored: &Record, base: &Text, body: &[u8]) -> Result<Option<Items>, St
     Ok(Some(items))
 }
 
-/// The links of a body against a base, or its first fault. They are shared with a record that has
-/// the base and the body.
+/// Returns the links of a body against a base, or the first fault of the body. The links are shared
+/// with the record if it has this base and this body.
 fn items_again(
     alloc: Global,
     base: &Text,
@@ -146,8 +149,8 @@ fn items_again(
     }
 }
 
-/// The links of a body against a base, or its first fault. They are shared with the record, where
-/// there is one, if it has the base and the body.
+/// Returns the links of a body against a base, or the first fault of the body. The links are shared
+/// with the record if there is one and it has this base and this body.
 fn items_sharing(
     alloc: Global,
     base: &Text,
@@ -164,17 +167,24 @@ fn items_sharing(
     }
 }
 
-/// The draft that [`build`](crate::build) gives. If this record has the base of the draft, and the
-/// body is the source of its links, their links are the same, and the draft shares those of the
-/// record in place of reading the body. The links of the record are those of a body that is not
-/// refused, against its base.
+/// Returns the draft that [`build`](crate::build) returns, and shares the links of a record if it
+/// can.
+///
+/// The draft shares them if the record has the base of the draft and the body is the source of its
+/// links. The links are the same then, and the body is not read.
+///
+/// # Requires
+///
+/// The base of the parameters, if there is one, is one that a registration may give. The links of
+/// the record, if there is one, are those of a body that is not refused, against its base.
 ///
 /// # Errors
 ///
-/// Those of [`build`](crate::build): `Links` exactly where the body is no link document; else
-/// `Reference` exactly where a target or an anchor is no URI-reference; else `Limited` exactly
-/// where a link without a scheme in its target has one in its anchor. `Starved` may come instead of
-/// each, and leaves nothing.
+/// The first that applies, over the whole body. If none applies, the only error is `Starved`, which
+/// can take the place of any result and leaves nothing.
+/// - `Links` if the body is no link document.
+/// - `Reference` if a target or an anchor is no URI-reference.
+/// - `Limited` if a link has an anchor with a scheme and a target without one.
 pub fn build_sharing(
     alloc: Global,
     params: RegParams,
@@ -215,17 +225,23 @@ pub fn build_sharing(
     })
 }
 
-/// The draft of a registration (RFC 9176 section 5): its links against its base, which is the one
-/// that is given, else that of the peer. A target or an anchor with a scheme stays as it was
-/// written; any other one is resolved (RFC 3986 section 5.2). The base of the parameters is one
-/// that a registration may give; where all of them are allowed, the draft is one that a directory
-/// takes.
+/// Returns the draft of a registration, with its links against its base (RFC 9176 section 5).
+///
+/// The base is the given one, or that of the peer if none is given. A target or an anchor with a
+/// scheme stays as it was written; any other one is resolved (RFC 3986 section 5.2). If all
+/// parameters are allowed, the draft is one that a directory accepts.
+///
+/// # Requires
+///
+/// The base of the parameters, if there is one, is one that a registration may give.
 ///
 /// # Errors
 ///
-/// `Links` exactly where the body is no link document; else `Reference` exactly where a target or
-/// an anchor is no URI-reference; else `Limited` exactly where a link without a scheme in its
-/// target has one in its anchor. `Starved` may come instead of each, and leaves nothing.
+/// The first that applies, over the whole body. If none applies, the only error is `Starved`, which
+/// can take the place of any result and leaves nothing.
+/// - `Links` if the body is no link document.
+/// - `Reference` if a target or an anchor is no URI-reference.
+/// - `Limited` if a link has an anchor with a scheme and a target without one.
 pub fn build(alloc: Global, params: RegParams, peer: Peer, body: &[u8]) -> Result<Draft, DraftFault>
     requires { IfSome params.base (λ base. is_base base ≡ true) }
     ensures draft { IfOk result (λ draft. option_map (drafted peer params)
@@ -243,14 +259,15 @@ pub fn build(alloc: Global, params: RegParams, peer: Peer, body: &[u8]) -> Resul
     build_sharing(alloc, params, peer, body, None)
 }
 
-/// The links of a body, before there is a base.
+/// Returns the links of a body, before there is a base.
 ///
 /// # Errors
 ///
-/// Those of [`build`](crate::build): `Links` exactly where the body is no link document; else
-/// `Reference` exactly where a target or an anchor is no URI-reference; else `Limited` exactly
-/// where a link without a scheme in its target has one in its anchor. `Starved` may come instead of
-/// each, and leaves nothing.
+/// The first that applies, over the whole body. If none applies, the only error is `Starved`, which
+/// can take the place of any result and leaves nothing.
+/// - `Links` if the body is no link document.
+/// - `Reference` if a target or an anchor is no URI-reference.
+/// - `Limited` if a link has an anchor with a scheme and a target without one.
 pub fn submitted(alloc: Global, body: &[u8]) -> Result<Submitted, DraftFault>
     ensures links { IfOk result (λ links. linked_references body.now ≡ Some links) }
     ensures good { OnOk result (body_fault body.now ≡ None) }

@@ -1,5 +1,5 @@
-//! What a registration is before it stands: its links resolved against its base, and what it weighs
-//! (RFC 9176 section 5).
+//! Drafts, which are registrations before they have a number: their links against their base, and
+//! their weights (RFC 9176 section 5).
 #![tactic(auto)]
 
 mod drafts;

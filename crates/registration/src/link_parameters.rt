@@ -1,4 +1,4 @@
-//! What the parameters of a link say: its anchor, and its attributes (RFC 6690 sections 2 and 3).
+//! The anchor of a link and its attributes, read from its parameters (RFC 6690 sections 2 and 3).
 ghost use Rattle.std.specs.Prelude.{◌≡◌, ◌<◌, ◌+◌, ◌^◌, ◌∷◌, ◌++◌, ℕ, List, [], length, option_map};
 ghost use Rattle.std.specs.Prelude.{IfOk};
 ghost use Rattle.rd_base.specs.Drafted.{drafted};
@@ -17,24 +17,25 @@ use std::alloc::Global;
 /// An anchor as it was submitted.
 #[derive(Debug, Drop)]
 pub struct Anchor {
-    /// Where its text begins in the body, after its quote where it has one, in octets.
+    /// The offset in the body at which the text begins, in octets. It is after the opening quote if
+    /// there is one.
     pub offset: usize,
-    /// Its text, without quotes and escapes.
+    /// The text, without quotes and escapes.
     pub text: Text,
 }
 
-/// What parameters say.
+/// The result of reading parameters.
 #[derive(Debug, Drop)]
 pub struct Gathered {
-    /// The links before, and what the other parameters say, as attributes of the next.
+    /// The links before, and the parameters that are no anchors, as attributes of the next link.
     pub builder: LinksBuilder,
-    /// The first anchor, where there is one.
+    /// The first anchor, if there is one.
     pub anchor: Option<Anchor>,
-    /// Where the parameters end in the body, in octets.
+    /// The offset in the body at which the parameters end, in octets.
     pub end: usize,
 }
 
-/// Links, where the next has what a parameter says as one attribute more.
+/// Returns the builder with this parameter as one more attribute of the next link.
 fn with_attribute(
     alloc: Global,
     builder: LinksBuilder,
@@ -51,7 +52,7 @@ fn with_attribute(
     }
 }
 
-/// How many octets a value has before what it says: a quote or none.
+/// Returns the number of octets of a value before its content: 1 for a quote, or 0.
 fn quote_length(value: Option<&str>) -> usize
     ensures value { result ≡ faults.quote_length (option_map (λ text. text.now) value.entry) }
     ensures small { result < 2 }
@@ -68,14 +69,14 @@ fn quote_length(value: Option<&str>) -> usize
     }
 }
 
-/// Whether a parameter is an anchor (RFC 6690 section 3.2).
+/// Returns whether a parameter is an anchor (RFC 6690 section 3.2).
 fn is_anchor(param: &Param<'_>) -> bool
     ensures { result ≡ quoting.is_anchor (parameter_seen param.now) }
 {
     param.name == "anchor"
 }
 
-/// A whole parameter, from its semicolon on.
+/// Returns the whole parameter, from its semicolon on.
 fn whole<'a>(param: &Param<'a>) -> &'a str
     ensures { result.now ≡ parameter_text (parameter_seen param.now) }
 {
@@ -83,7 +84,8 @@ fn whole<'a>(param: &Param<'a>) -> &'a str
 }
 
 impl Gathered {
-    /// Nothing, where the parameters begin at this octet. Takes no memory.
+    /// Returns the result before any parameter is read. The parameters begin at this octet of the
+    /// body. Does not allocate.
     fn nothing(builder: LinksBuilder, start: usize) -> Gathered
         requires { WaitsForNone builder }
         ensures { (all : List Parameter) → IsGathered builder.links start all all result }
@@ -95,7 +97,7 @@ impl Gathered {
         }
     }
 
-    /// With what the next parameter says.
+    /// Returns the result after one more parameter. An anchor after the first one is ignored.
     fn with(self, alloc: Global, param: &Param<'_>) -> Result<Gathered, Starved>
         requires { self.end + length (parameter_text (parameter_seen param.now)) < 2 ^ 63 }
         ensures { IfOk result (λ new. (before : List Item) (start : ℕ) (all rest : List Parameter)
@@ -133,8 +135,8 @@ impl Gathered {
     }
 }
 
-/// What the parameters of a link say, which begin at this octet of the body: its attributes are
-/// those of the next link.
+/// Reads the parameters of a link, which begin at this octet of the body. Those that are no anchors
+/// become attributes of the next link.
 pub fn gather(
     alloc: Global,
     link: &LinkRef<'_>,

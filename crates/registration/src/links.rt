@@ -1,4 +1,4 @@
-//! Links of a document, one after another, against the base of a registration.
+//! The links of a document, read one after another against the base of a registration.
 ghost use Rattle.std.specs.Prelude.{◌≡◌, ◌<◌, ◌+◌, ◌≤◌, ◌^◌, ◌∷◌, ◌++◌, [], length, option_map};
 ghost use Rattle.std.specs.Prelude.{IfOk};
 ghost use Rattle.std.specs.String.{string_bytes};
@@ -18,18 +18,19 @@ use rd_base::{Items, LinkParts, LinksBuilder, Starved};
 use ref_resolve::Parts;
 use std::alloc::Global;
 
-/// Links that were read.
+/// The result of reading a link, with the links before it.
 #[derive(Debug, Drop)]
 struct Read {
     /// The links against the base.
     builder: LinksBuilder,
-    /// Whether the last is in the Limited Link Format (RFC 9176 appendix C).
+    /// Whether the last link is in the Limited Link Format (RFC 9176 appendix C).
     is_limited: bool,
-    /// Where it ends in the body, in octets.
+    /// The offset in the body at which the last link ends, in octets.
     end: usize,
 }
 
-/// Writes an anchor against the base, where there is one, and says whether it has a scheme.
+/// Writes an anchor against the base, if there is one, and returns whether it has a scheme. Returns
+/// `Reference` if it is no URI-reference.
 fn refer_anchor(
     alloc: Global,
     base: &Parts<'_>,
@@ -47,8 +48,9 @@ fn refer_anchor(
     }
 }
 
-/// Whether a link is in the Limited Link Format: a target without a scheme has no anchor with one
-/// (RFC 9176 appendix C).
+/// Returns whether a link is in the Limited Link Format (RFC 9176 appendix C): its target has a
+/// scheme, or it has no anchor with a scheme. The arguments say whether the target and the anchor,
+/// if there is one, have a scheme.
 fn is_limited(target: bool, anchor: Option<bool>) -> bool
     ensures { result ≡ is_limited_as_referred target anchor }
 {
@@ -58,7 +60,7 @@ fn is_limited(target: bool, anchor: Option<bool>) -> bool
     }
 }
 
-/// The text of an anchor as it was submitted, where there is one.
+/// Returns the text of an anchor as it was submitted, if there is one.
 fn submitted_text(anchor: &Option<Anchor>) -> Option<&str>
     ensures { text_seen result ≡ option_map (λ a. a.text) anchor.now }
 {
@@ -68,7 +70,7 @@ fn submitted_text(anchor: &Option<Anchor>) -> Option<&str>
     }
 }
 
-/// The text of an anchor against the base, where there is one.
+/// Returns the text of an anchor against the base, if there is one.
 fn referred_text(anchor: Option<bool>, referred: &str) -> Option<&str>
     ensures { text_seen result ≡ option_map (λ _. referred.now) anchor }
 {
@@ -78,8 +80,8 @@ fn referred_text(anchor: Option<bool>, referred: &str) -> Option<&str>
     }
 }
 
-/// Links and one more, with the attributes that wait for it: its target as it was submitted, its
-/// anchor and whether that has a scheme, and both against the base.
+/// Returns the builder with one more link, which gets the attributes that wait for it. The link has
+/// its target and its anchor as they were submitted, and both against the base.
 fn with_referred(
     builder: LinksBuilder,
     target_ref: &str,
@@ -102,7 +104,8 @@ fn with_referred(
     builder.with_link(&parts)
 }
 
-/// Links and one more, against a base: that which begins at this octet of the body.
+/// Reads one more link, which begins at this octet of the body, against a base. Returns `Reference`
+/// if its target or its anchor is no URI-reference.
 fn read_link(
     alloc: Global,
     base: &Parts<'_>,
@@ -134,7 +137,7 @@ fn read_link(
     })
 }
 
-/// The index of the first link that is not limited, where one link more is read.
+/// Returns the index of the first link that is not limited, after the link at `index` was read.
 fn noted(unlimited: Option<usize>, is_limited: bool, index: usize) -> Option<usize>
     ensures { result ≡ noted index is_limited unlimited }
 {
@@ -144,8 +147,13 @@ fn noted(unlimited: Option<usize>, is_limited: bool, index: usize) -> Option<usi
     Some(index)
 }
 
-/// The links of a document against a base, or the first fault of their references, and else that of
-/// the Limited Link Format. The builder has no link yet.
+/// Returns the links of a document against a base. The builder has no link yet.
+///
+/// # Errors
+///
+/// The first that applies. `Starved` can take the place of any result.
+/// - `Reference` if a target or an anchor is no URI-reference.
+/// - `Limited` if a link is not in the Limited Link Format (RFC 9176 appendix C).
 pub fn read_links(
     alloc: Global,
     base: &Parts<'_>,

@@ -32,7 +32,7 @@ fn refer_again(
     }
 }
 
-/// Writes a reference against a base, where there is one.
+/// Writes a reference against a base, if there is one.
 fn refer_where_present(
     alloc: Global,
     base: &Parts<'_>,
@@ -48,7 +48,7 @@ fn refer_where_present(
     }
 }
 
-/// The text that was written of a reference, where there is one.
+/// Returns the text that was written for a reference, if there is one.
 fn written<'a>(text: Option<&str>, referred: &'a str) -> Option<&'a str>
     ensures { text_seen result ≡ option_map (λ _. referred.now) (text_seen text.entry) }
 {
@@ -58,7 +58,7 @@ fn written<'a>(text: Option<&str>, referred: &'a str) -> Option<&'a str>
     }
 }
 
-/// Links and one more, against another base.
+/// Returns the builder with one more link, against another base.
 fn with_rebased(
     alloc: Global,
     base: &Parts<'_>,
@@ -86,9 +86,18 @@ fn with_rebased(
     Ok(builder)
 }
 
-/// The links against another base: each target and anchor as it was submitted, resolved anew where
-/// it has no scheme. The links are such as [`build`](crate::build) gives, and the base is one: any
-/// that may be given, and any of a peer, is. An error is running out of memory.
+/// Returns the links against another base. A target or an anchor with a scheme stays as it was
+/// submitted; any other one is resolved anew.
+///
+/// # Requires
+///
+/// The targets and anchors of the links are URI-references as submitted, as in the links that
+/// [`build`](crate::build) returns. The base is one that a registration may give, or that of a
+/// peer.
+///
+/// # Errors
+///
+/// `Starved` if memory runs out.
 pub fn rebased(alloc: Global, items: &Items, base: &Text) -> Result<Items, Starved>
     requires references { list_all has_references items.now ≡ true }
     requires base { is_base base.now ≡ true }

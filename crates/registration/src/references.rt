@@ -1,4 +1,4 @@
-//! A reference of a link against the base of its registration (RFC 3986 section 5.2).
+//! The references of a link against the base of its registration (RFC 3986 section 5.2).
 ghost use Rattle.std.specs.Prelude.{◌≡◌};
 ghost use Rattle.std.specs.String.{string_bytes};
 ghost use Rattle.registration.specs.References.{Refers};
@@ -7,17 +7,17 @@ use rd_base::Starved;
 use ref_resolve::{Parts, is_uri, parts, resolve_into};
 use std::alloc::Global;
 
-/// Texts into which the references of one link after another are written against a base.
+/// The texts into which the references of one link after another are written, against a base.
 #[derive(Debug, Drop)]
 pub struct Referred {
     /// The target.
     pub target: String,
-    /// The anchor, where there is one.
+    /// The anchor, if there is one.
     pub anchor: String,
 }
 
 impl Referred {
-    /// Empty ones. Takes no memory.
+    /// Returns empty texts. Does not allocate.
     pub fn new(alloc: Global) -> Referred {
         Referred {
             target: String::new(alloc),
@@ -26,8 +26,14 @@ impl Referred {
     }
 }
 
-/// Writes a reference against a base in place of another text, and says whether it has a scheme;
-/// None where the text is no URI-reference. A reference with a scheme stays as it is.
+/// Writes a reference against a base into `referred`, in place of its text, and returns whether the
+/// reference has a scheme.
+///
+/// A reference with a scheme stays as it is. Returns `None` if the text is no URI-reference.
+///
+/// # Errors
+///
+/// `Starved` if memory runs out.
 pub fn refer(
     alloc: Global,
     base: &Parts<'_>,

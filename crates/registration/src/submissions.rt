@@ -11,11 +11,11 @@ use rd_base::{Items, Starved, Text};
 use std::alloc::Global;
 use std::marker::Model;
 
-/// The links of a body that has no fault, in its order, before there is a base. A contract sees
-/// them as the list of links that were submitted.
+/// The links of a body that has no fault, in its order, before there is a base. Contracts see it as
+/// the list of the links that were submitted.
 #[derive(Debug, Drop)]
 pub struct Submitted {
-    /// The links against no base.
+    /// The links, which may have been read against any base.
     items: Items,
 }
 
@@ -34,7 +34,7 @@ impl Model for Submitted {
 }
 
 impl Submitted {
-    /// The links of a body without a fault, which were read against any base.
+    /// Returns the links of a body without a fault, given those links against any base.
     pub(crate) fn of(items: Items) -> Submitted
         requires references { list_all has_references items ≡ true }
         requires of_body { AreOfBody items }
@@ -43,9 +43,16 @@ impl Submitted {
         Submitted { items }
     }
 
-    /// The links against a base, which is one that may be given, or that of a peer: a target or an
-    /// anchor with a scheme stays as it was written; any other one is resolved (RFC 3986 section
-    /// 5.2). An error is running out of memory.
+    /// Returns the links against a base. A target or an anchor with a scheme stays as it was
+    /// written; any other one is resolved (RFC 3986 section 5.2).
+    ///
+    /// # Requires
+    ///
+    /// The base is one that a registration may give, or that of a peer.
+    ///
+    /// # Errors
+    ///
+    /// `Starved` if memory runs out.
     pub fn against(&self, alloc: Global, base: &Text) -> Result<Items, Starved>
         requires base { is_base base.now ≡ true }
         ensures items { IfOk result (λ items. items ≡ records.items_of base.now self.now) }

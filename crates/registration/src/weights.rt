@@ -1,4 +1,5 @@
-//! What a draft weighs: the octets of the lines that it gives, each with one more for a comma.
+//! The weights of drafts: the octets of the lines of a draft in listings, with one more for a comma
+//! after each.
 ghost use Rattle.std.specs.Prelude.{◌≡◌, ◌==◌, ◌||◌, ◌+◌, ◌<◌, length, filter, flat_map, sum_by};
 ghost use Rattle.std.specs.Prelude.{decimal};
 ghost use Rattle.rd_base.specs.declared.moments.Moment.{Moment};
@@ -13,10 +14,11 @@ use crate::drafts::Draft;
 use itoa::write_digits;
 use rd_base::{Items, Pair, Text};
 
-/// The digits that a number of 64 bits has at most.
+/// The greatest number of digits of a number of 64 bits.
 const DIGITS: usize = 20;
 
-/// As many octets more, up to the greatest number of 64 bits.
+/// Returns the weight with this number of octets added, or the greatest number of 64 bits if the
+/// sum is more.
 fn add(weight: u64, octets: usize) -> u64
     ensures { result ≡ capped (weight + octets) }
 {
@@ -37,7 +39,7 @@ fn marks(octets: &[u8]) -> usize
     octets.iter().filter(|octet| is_mark(**octet)).count()
 }
 
-/// With a text in quotes, a backslash before each quote and each backslash in it.
+/// Adds a text in quotes to a weight, with a backslash before each quote and each backslash in it.
 fn add_quoted(weight: u64, text: &str) -> u64
     ensures { result ≡ capped (weight + length (quoted text.now)) }
 {
@@ -46,8 +48,7 @@ fn add_quoted(weight: u64, text: &str) -> u64
     add(plain, marks(octets))
 }
 
-/// With a name of so many octets and a value in quotes: a semicolon stands before the name and an
-/// equals sign after it.
+/// Adds an attribute to a weight: a semicolon, its name, an equals sign, and its value in quotes.
 fn add_attribute(weight: u64, name: &str, value: &str) -> u64
     ensures { result
         ≡ capped (weight + length (listing_model.quoted_attribute
@@ -56,7 +57,7 @@ fn add_attribute(weight: u64, name: &str, value: &str) -> u64
     add_quoted(add(weight, 2 + name.len()), value)
 }
 
-/// With an extra attribute: its name alone where its value is empty.
+/// Adds an extra attribute to a weight. If its value is empty, only a semicolon and its name count.
 fn add_extra(weight: u64, pair: &Pair) -> u64
     ensures { result ≡ capped (weight + length (listing_model.extra_attribute pair.now)) }
 {
@@ -66,7 +67,7 @@ fn add_extra(weight: u64, pair: &Pair) -> u64
     add_attribute(weight, pair.name.as_str(), pair.value.as_str())
 }
 
-/// With extra attributes.
+/// Adds extra attributes to a weight.
 fn add_extras(weight: u64, pairs: &[Pair]) -> u64
     ensures { result ≡ capped (weight + length (flat_map listing_model.extra_attribute pairs.now)) }
 {
@@ -77,7 +78,7 @@ fn add_extras(weight: u64, pairs: &[Pair]) -> u64
     sum
 }
 
-/// With the sector of an endpoint, where it has one.
+/// Adds the sector of an endpoint to a weight, if it has one.
 fn add_sector(weight: u64, sector: &Option<Text>) -> u64
     ensures { result
         ≡ capped (weight + length (flat_map listing_model.quoted_attribute
@@ -89,7 +90,7 @@ fn add_sector(weight: u64, sector: &Option<Text>) -> u64
     }
 }
 
-/// How many digits a number has.
+/// Returns the number of decimal digits of a number.
 fn digits(number: u64) -> usize
     ensures value { result ≡ length (decimal number) }
     ensures small { result < 21 }
@@ -98,10 +99,10 @@ fn digits(number: u64) -> usize
     DIGITS - write_digits(number, &mut room, DIGITS)
 }
 
-/// How many octets the type of an endpoint takes in its line: `;rt="core.rd-ep"`.
+/// The number of octets of the type of an endpoint in its line: `;rt="core.rd-ep"`.
 const TYPED: usize = 16;
 
-/// With the line of an endpoint.
+/// Adds the line of an endpoint to a weight.
 fn add_endpoint(weight: u64, draft: &Draft, number: u64) -> u64
     ensures { (now : Moment)
         → result
@@ -116,7 +117,8 @@ fn add_endpoint(weight: u64, draft: &Draft, number: u64) -> u64
     add_extras(sum, draft.attrs.as_slice())
 }
 
-/// With the lines of links, each with one octet more: all of them, with a comma after each.
+/// Adds the lines of links to a weight, each with one octet more. These are the octets of all
+/// lines, with a comma after each.
 fn add_links(weight: u64, items: &Items) -> u64
     ensures { result
         ≡ capped (weight + sum_by (λ item. length (listing_model.link_line item) + 1) items.now) }
@@ -127,10 +129,11 @@ fn add_links(weight: u64, items: &Items) -> u64
     add(add(weight, items.listed().len()), 1)
 }
 
-/// What a draft weighs under a number, in octets: its endpoint line and each of its link lines,
-/// each with one octet more (RFC 9176 sections 6.3 and 6.4). No listing is longer than what its
-/// registrations weigh. It is the greatest number of 64 bits where it would be more. Takes no
-/// memory.
+/// Returns the weight of a draft under a number, in octets. Does not allocate.
+///
+/// The weight is the length of its endpoint line and of each of its link lines, each with one octet
+/// more (RFC 9176 sections 6.3 and 6.4). If that is more than the greatest number of 64 bits,
+/// returns that number. No listing is longer than the sum of the weights of its registrations.
 pub fn weight(draft: &Draft, number: u64) -> u64
     ensures { (now : Moment)
         → result ≡ capped (listing_model.weight (recorded number now draft.now)) }

@@ -1,5 +1,5 @@
-//! Watched queries: which of them a change touched, and the body last built for each (RFC 7641
-//! section 1.3).
+//! Watched queries: those that a change touched, and the body last built for each (RFC 7641 section
+//! 1.3).
 #![tactic(auto)]
 
 mod notes;

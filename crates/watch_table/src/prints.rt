@@ -10,7 +10,7 @@ use rd_base::Criterion;
 /// The number of criteria of a query whose prints are stored.
 pub(crate) const MOST_PRINTS: usize = 4;
 
-/// How many numbers hold the bits that record which prints are noted.
+/// The number of 64-bit numbers that hold the bits of noted prints.
 pub(crate) const WORDS: usize = 128;
 
 /// Returns the print of a text with one more octet.
@@ -82,21 +82,23 @@ fn bit_of(print: u32) -> u32
     print % 64
 }
 
-/// Notes a print.
+/// Notes a print by setting its bit.
 pub(crate) fn note(notes: &mut [u64; WORDS], print: u32)
     ensures { notes.new ≡ prints.noted notes.old print }
 {
     notes[word_of(print)] |= 1 << bit_of(print);
 }
 
-/// Returns whether a print is noted. May be true of a print that is not.
+/// Returns whether the bit of a print is set. Other prints have the same bit, so it may be set for
+/// a print that was never noted.
 fn is_noted(notes: &[u64; WORDS], print: u32) -> bool
     ensures { result ≡ prints.is_noted notes.now print }
 {
     (notes[word_of(print)] >> bit_of(print)) & 1 == 1
 }
 
-/// Returns whether these prints are all noted. May be true of prints that are not.
+/// Returns whether the bits of these prints are all set. This may be so for prints that were never
+/// noted.
 pub(crate) fn are_noted(notes: &[u64; WORDS], kept: &[u32]) -> bool
     ensures { result ≡ prints.all_noted notes.now kept.now }
 {

@@ -1,4 +1,4 @@
-//! When two queries are the same: in kind, in criteria and their order, in page and in count.
+//! The comparison of queries: in kind, in criteria and their order, in page and in count.
 ghost use Rattle.std.specs.Prelude.{◌≡◌, ◌↔◌, IsTrue};
 ghost use Rattle.event_model.specs.Same.{is_same_query as is_same};
 

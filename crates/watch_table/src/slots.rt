@@ -24,7 +24,7 @@ use rd_base::{Bytes, Query, Record};
 use std::alloc::Global;
 use std::sync::Arc;
 
-/// Returns the slot in which a query is watched.
+/// Returns the slot in which a query is watched, or `None` if it is not watched.
 fn find_slot(watches: &IndexMap<u32, Watch>, query: &Query) -> Option<u32>
     ensures { result ≡ slot_of query.now watches.now.entries }
 {
@@ -131,7 +131,7 @@ fn touch_at(
     }
 }
 
-/// Does the same as `touch_at`, but skips a query if the notes show that its lines stay the same.
+/// Marks a query as `touch_at` does, but skips it if the notes show that its lines stay the same.
 pub(crate) fn touch_noted_at(
     watches: &mut IndexMap<u32, Watch>,
     index: usize,

@@ -23,7 +23,7 @@ use std::sync::Arc;
 pub(crate) struct Watch {
     /// The query.
     query: Query,
-    /// The query with each of its criteria once, if some are repeated.
+    /// The query with each of its criteria once, or `None` if none is repeated.
     distinct: Option<Query>,
     /// The prints of the prefixes that its first criteria seek.
     prints: ArrayVec<u32, MOST_PRINTS>,
@@ -142,7 +142,8 @@ impl Watch {
         self.marked
     }
 
-    /// Returns the body last built for it, if its lines have not changed since.
+    /// Returns the body last built for it, or `None` if there is none or its lines have changed
+    /// since.
     pub(crate) fn body(&self) -> Option<&Arc<Bytes>>
         ensures { option_map (λ body. arc_value body.now) result ≡ self.now.body }
     {

@@ -6,7 +6,7 @@ use std::alloc::{AllocError, AllocFailed};
 /// The reason why a query is not watched.
 #[derive(Clone, Copy, Debug, PartialEq, Eq)]
 pub enum WatchFault {
-    /// 256 other queries are watched, which is the most.
+    /// The table is full: 256 other queries are watched, the most there can be.
     FullWatches,
     /// Memory ran out.
     Starved,

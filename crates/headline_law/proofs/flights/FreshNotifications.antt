@@ -51,8 +51,11 @@ use Rattle.journal_model.proofs.flights.WaitedPeers.{
   Waits,
   flies_key,
 }
-use Rattle.journal_model.proofs.flights.NotificationsAgain.{AgainSent, AgainNoted}
-use Rattle.journal_model.proofs.flights.NotificationsAgain.{events_after_again}
+use Rattle.journal_model.proofs.flights.NotificationsAgain.{
+  AgainSent,
+  AgainNoted,
+  events_after_again,
+}
 use Rattle.headline_law.proofs.flights.TickNotifications.{
   is_notification_to,
   IsNotificationOf,

@@ -61,8 +61,12 @@ use Rattle.rd_desk.specs.declared.tick.planning.Plan.{Plan}
 use Rattle.transfers.specs.Keeping.{NamedAnswer}
 use Rattle.rd_desk.specs.declared.tick.planning.Planned.{Planned}
 use Rattle.rd_desk.specs.parts.Planning.{AreDone, PlannedUpTo}
-use Rattle.rd_desk.proofs.ticking.NotificationWalk.{notifications-next, notifications-end}
-use Rattle.rd_desk.proofs.ticking.NotificationWalk.{drop-drop, got-drop}
+use Rattle.rd_desk.proofs.ticking.NotificationWalk.{
+  notifications-next,
+  notifications-end,
+  drop-drop,
+  got-drop,
+}
 use Rattle.rd_desk.proofs.ticking.PlanLaws.{free_before}
 
 -- ---- the first that passes one test, and the first that passes a stronger one

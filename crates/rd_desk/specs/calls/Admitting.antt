@@ -105,7 +105,7 @@ message_takes role.Request rows moment s m = request_takes (refusal_of_request m
 message_takes role.Response rows moment s m = response_takes rows s m
 message_takes role.Ignored rows moment s m = false
 
--- Returns whether what is read of a datagram allocates after a journal.
+-- Returns whether handling a datagram after a journal allocates, from the result of reading it.
 abbrev pub takes_memory : List Row → ℕ → Step → Result Message Unread → Bool
 takes_memory rows moment s (Err fault) = false
 takes_memory rows moment s (Ok m) = message_takes (role_of m.kind m.code) rows moment s m

@@ -15,8 +15,8 @@ use Rattle.simple_registration.specs.Challenges.{ChallengeTable, ChallengesStand
 use Rattle.observation.specs.Directories.{DirectoryStandsFor}
 use Rattle.observation.specs.Watching.{Watching, WatchingStandsFor}
 
--- What a desk shows: its moment, the version of the directory, the tables, and how many Observe
--- values it gave, modulo 2^64.
+-- What a desk shows: its moment, the version of the directory, and the tables. It also shows how
+-- many Observe values it gave, modulo 2^64.
 pub record Seen : Type 0 where
   pub moment : ℕ
   pub version : Version

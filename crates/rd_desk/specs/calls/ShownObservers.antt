@@ -22,8 +22,8 @@ IsShown None (Some w) = ⊥
 IsShown (Some x) None = ⊥
 IsShown (Some x) (Some w) = IsShownAs x w
 
--- A shown observer that is this observer after a journal: whether it is due, and whether a
--- notification to it is in flight.
+-- A shown observer that is this observer after a journal. It shows whether the observer is due, and
+-- whether a notification to it is in flight.
 pub record IsObserverAfter (rows : List Row) (o : Observer) (w : Watcher) : Type 0 where
   pub peer : w.peer ≡ o.peer
   pub token : w.token ≡ o.token

@@ -1,4 +1,4 @@
--- How a step ends that does a job, a tick or a beginning.
+-- The result of a step that does a job, of a tick or of a beginning.
 use Rattle.std.specs.Prelude.{Bool, true, false}
 use Rattle.rd_desk.specs.declared.stepped.Stepped.{Stepped}
 use Rattle.rd_desk.specs.declared.stepped.Stepped.TheVariants as stepped

@@ -1,4 +1,4 @@
--- A call as the step of a journal: as it is called, and as it was made.
+-- Calls as the steps of a journal: what each requires, and what it leaves.
 use Rattle.std.specs.Prelude.{◌≡◌, ℕ, false, List, ◌∷◌}
 use Rattle.rd_base.specs.declared.moments.Moment.{Moment}
 use Rattle.rd_base.specs.declared.peers.Peer.{Peer}
@@ -10,8 +10,8 @@ use Rattle.journal_model.specs.UnfinishedRow.{drawing}
 use Rattle.coap_answers.specs.declared.mids.Mids.{Mids}
 use Rattle.rd_desk.specs.calls.Desks.{Seen, StandsFor}
 
--- The call of a step. The step has the moment and the Message IDs that are passed in, no look was
--- later, and the desk stands for the journal.
+-- The call of a step that is not a look, after a journal that the desk stands for. The step has the
+-- moment and the Message IDs that are passed in. No look in the journal was later than that moment.
 pub record IsCalled (rows : List Row) (s : Step) (now : Moment) (mids : Mids) (desk : Seen) : Type 0
   where
     pub journal : IsDeskJournal rows

@@ -18,7 +18,7 @@ abbrev pub looks_at_any : Ticking → Effects → Bool
 looks_at_any t done = list_any (is_looked_at t done) (observers (events_with t done))
 
 -- Returns whether a tick allocates. It does if, after its retransmissions of notifications, an
--- observer is due and no notification to its peer is in flight (RFC 7641 section 4.2, RFC 7252
+-- observer is due to whose peer no notification is in flight (RFC 7641 section 4.2, RFC 7252
 -- section 4.7).
 abbrev pub tick_takes_memory : List Row → ℕ → Step → Bool
 tick_takes_memory rows moment s = looks_at_any (ticking rows moment s)

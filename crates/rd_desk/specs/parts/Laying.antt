@@ -20,8 +20,8 @@ use Rattle.rd_desk.specs.declared.write.outcomes.Entering.{Entering}
 use Rattle.rd_desk.specs.declared.write.outcomes.Outcome.{Outcome}
 
 -- A part of a step that found one version and left another, with a board. Either it made one entry
--- and staged the version with it, or it left version and board as they were. In the second case,
--- nothing is staged.
+-- and staged the version with it, or it left the version and the board unchanged. If it made no
+-- entry, nothing is staged.
 pub record IsLaid (old new : Version) (before after : Option (Option Version))
     (is_staged : Bool) : Type 0 where
   pub entered : Bool
@@ -46,7 +46,8 @@ IsNextOf history o = IfSome o.entering (λ e. HasOneMore history (arc_value e.ve
 abbrev pub IsSweptBefore : Outcome → Type 0
 IsSweptBefore o = IfSome o.entering (λ e. (arc_value e.version).swept ≤ (arc_value e.version).at)
 
--- States that the outcome leaves the new version: its own, or the old one if it makes no entry.
+-- States that the outcome leaves the new version. That is its own version, or the old one if it
+-- makes no entry.
 abbrev pub IsLeftBy : Version → Version → Option Entering → Type 0
 IsLeftBy old new None = new ≡ old
 IsLeftBy old new (Some e) = new ≡ arc_value e.version

@@ -1,5 +1,5 @@
--- Lookups and reads whose answers depend on the journal: whether they allocate, and what they note
--- (RFC 7959 section 2.4, RFC 7641 sections 3 and 4.1).
+-- Lookups and reads whose answers depend on the journal. The definitions say whether they allocate,
+-- and what they note (RFC 7959 section 2.4, RFC 7641 sections 3 and 4.1).
 use Rattle.std.specs.Prelude.{
   ◌≡◌,
   ℕ,
@@ -56,8 +56,8 @@ answer_at history moment query = record {
   tag = tag history moment;
 }
 
--- Returns what a history at a moment gives to a request, under its tag, or none if the registration
--- is not live.
+-- Returns what a request finds in a history at a moment, under its tag, or `None` if the
+-- registration is not live.
 abbrev pub answer_found : List Entry → ℕ → Message → Option Answer
 answer_found history moment m =
     option_and_then (λ sought. answer_for sought history moment) (sought_in m)
@@ -76,8 +76,8 @@ pub record IsFormed (keep : Bool) (answer : Answer) (f : Formed) : Type 0 where
   pub listed : answer_listed f.listed ≡ answer
   pub kept : is_some f.ready ≡ keep
 
--- States the result for a later block: the answer found, to be kept if it has that block, or
--- nothing if nothing is found.
+-- States what is built for a later block: the answer found, to be kept if it has that block. If
+-- nothing is found, nothing is built.
 abbrev pub IsFormedOf : Message → Option Answer → Option Formed → Type 0
 IsFormedOf m None None = Unit {0}
 IsFormedOf m None (Some f) = ⊥

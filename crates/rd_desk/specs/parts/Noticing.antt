@@ -9,8 +9,8 @@ use Rattle.journal_model.specs.Effects.{Effects, nothing, noting}
 use Rattle.observers.specs.Standing.{Standing, due_of}
 use Rattle.observation.specs.Notifications.{sending_again}
 
--- Returns what a tick does with the notification in flight to an observer, by what is due for it:
--- nothing, a retransmission, or the removal of the observer (RFC 7641 section 4.5).
+-- Returns what a tick does with the notification in flight to an observer, by what is due for it.
+-- That is nothing, a retransmission, or the removal of the observer (RFC 7641 section 4.5).
 abbrev pub again_as : Again → Standing → Option Sent → Effects
 again_as again.Send x (Some sent) = sending_again x sent
 again_as again.GaveUp x (Some sent) = noting (note.Unwatched x.peer x.token ∷ [])

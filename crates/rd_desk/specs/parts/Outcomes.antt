@@ -33,7 +33,7 @@ abbrev pub IsEntering : List Entry → ℕ → Entry → Entering → Type 0
 IsEntering history swept entry e =
     HasEntry history swept entry (arc_value e.version) e.number e.kind
 
--- States that what is ready belongs to a moment: its entry was made then, and its version was not
+-- States that what is ready belongs to a moment. Its entry was made then, and its version was not
 -- swept later.
 abbrev pub IsReadyAt : ℕ → Entering → Type 0
 IsReadyAt moment e = ((arc_value e.version).at ≡ moment) × ((arc_value e.version).swept ≤ moment)
@@ -42,22 +42,22 @@ IsReadyAt moment e = ((arc_value e.version).at ≡ moment) × ((arc_value e.vers
 abbrev pub IsTimely : ℕ → Outcome → Type 0
 IsTimely moment o = IfSome o.entering (IsReadyAt moment)
 
--- States which notes a write has: none if it is refused, otherwise the entry that is ready,
--- followed by further ones.
+-- States which notes a write has. A write that is refused has none. Otherwise the first note is the
+-- entry that is ready, and further ones follow.
 abbrev pub AreNotes : List Entry → ℕ → List Note → List Note → Option Entering → Type 0
 AreNotes history swept further notes None = notes ≡ []
 AreNotes history swept further notes (Some e) =
     (entry : Entry) × (notes ≡ note.Entered entry ∷ further) × IsEntering history swept entry e
 
--- An outcome that is planned as meant, for a version that is swept up to a moment and stands for a
--- history. An accepted change adds further notes to its entry.
+-- An outcome with the answer and the notes that are meant, for a version that is swept up to a
+-- moment and stands for a history. An accepted change adds further notes to its entry.
 pub record IsPlanned (history : List Entry) (swept : ℕ) (further : List Note)
     (meant : changes.Outcome) (o : Outcome) : Type 0 where
   pub said : short_said o.reply ≡ meant.reply
   pub notes : AreNotes history swept further meant.notes o.entering
 
--- States that the outcome of a write belongs to a moment: its entry has that moment, if it makes
--- one.
+-- States that the outcome of a write belongs to a moment. If it makes an entry, the entry has that
+-- moment.
 abbrev pub IsMadeAt : ℕ → changes.Outcome → Type 0
 IsMadeAt moment meant =
     (entry : Entry) (more : List Note)

@@ -80,8 +80,8 @@ block_of_notification szx = Some (record {
       else 6;
 })
 
--- Returns the block that a notification names: the first, if its body is longer than that, and
--- otherwise none.
+-- Returns the block that a notification names. It names the first block if its body is longer than
+-- that, and none otherwise.
 abbrev pub block_named : ℕ → List ℕ → Option Block
 block_named szx body = if is_long (block_of_notification szx) body then block_of_notification szx
     else None
@@ -136,7 +136,7 @@ abbrev pub keeping_noted : List NamedAnswer → Effects
 keeping_noted [] = noting []
 keeping_noted (a ∷ more) = noting (note.Kept a.name.0 a.name.1 a.answer.body a.answer.tag ∷ [])
 
--- Returns what is done for an observer as planned, if listings have this tag.
+-- Returns the effects of what is planned for an observer, if this is the tag of listings.
 abbrev pub planned_done : List ℕ → Observer → Planned → Effects
 planned_done current o planned.Unchanged = noting (note.Unchanged o.peer o.token ∷ [])
 planned_done current o (planned.Notified sent body) =
@@ -148,9 +148,9 @@ abbrev pub planned_kept : List ℕ → Observer → Planned → List NamedAnswer
 planned_kept current o planned.Unchanged = []
 planned_kept current o (planned.Notified sent body) = kept_of o (arc_value body) current
 
--- A notification that may be sent to an observer in a row that did this so far. The row has not
--- sent a confirmable message with its Message ID to that peer. The notification is confirmable, its
--- timeout starts in this row, and it is no longer than a datagram may be.
+-- A notification that the row, which did this so far, may send to an observer. The row has not sent
+-- a confirmable message with its Message ID to that peer. The notification is confirmable, its
+-- timeout starts in this row, and it has at most 1,280 octets.
 pub record MayBeSent (rows : List Row) (s : Step) (done : Effects) (o : Observer) (sent : Sent) :
     Type 0 where
   pub unsent :
@@ -162,7 +162,7 @@ pub record MayBeSent (rows : List Row) (s : Step) (done : Effects) (o : Observer
       → Resends first [] sent.resend
   pub short : length sent.octets ≤ 1_280
 
--- States the same of what is planned.
+-- States that what is planned for an observer may be done, in a row that did this so far.
 abbrev pub MayBeDone : List Row → Step → Effects → Observer → Planned → Type 0
 MayBeDone rows s done o planned.Unchanged = Unit {0}
 MayBeDone rows s done o (planned.Notified sent body) = MayBeSent rows s done o sent
@@ -182,7 +182,7 @@ pub record IsNext (rows : List Row) (s : Step) (starved : Bool) (done : Effects)
   pub room : length done.sent < 1_152
 
 -- States that the planned items, one after the other, are all that a row does after what it did so
--- far, and that these answers are kept.
+-- far. Doing them keeps these answers.
 abbrev pub AreDone : List Row
     → Step
     → Bool
@@ -251,8 +251,8 @@ pub record CarryingOut (rows : List Row) (s : Step) (starved : Bool) (current : 
   pub plan : AreDone rows s starved current whole done from ps kept
   pub becomes : kept_each (row_moment rows s) kept answers ≡ ready
 
--- Returns what a row does with notifications: retransmissions, then new ones. If memory ran out, it
--- does only the retransmissions.
+-- Returns what a row does with notifications: it retransmits, and then sends new ones. If memory
+-- ran out, it only retransmits.
 abbrev pub notifications_done : Bool → List Row → Step → Effects
 notifications_done true rows s = notifications_again rows (row_moment rows s)
 notifications_done false rows s =

@@ -18,8 +18,8 @@ use Rattle.coap_answers.specs.Outboxes.{most_datagrams}
 use Rattle.rd_desk.specs.calls.Desks.{Seen}
 use Rattle.rd_desk.specs.parts.UnderWay.{UnderWay}
 
--- The fetch of a peer that is as it was before the current row: its last request is the same, and
--- the same is due for it.
+-- A fetch of a peer that is as it was before the current row. Its last request is the same, and the
+-- same is due for it.
 pub record IsAsBefore (rows : List Row) (s : Step) (starved : Bool) (done : Effects) (peer : Peer) :
     Type 0 where
   pub request :
@@ -28,7 +28,7 @@ pub record IsAsBefore (rows : List Row) (s : Step) (starved : Bool) (done : Effe
       → fetch_due (row_moment rows s) peer e (events (making rows s starved done))
       ≡ fetch_due (row_moment rows s) peer e (events rows)
 
--- What the row did so far, if it leaves all fetches unchanged.
+-- The effects of the row so far, if they leave all fetches unchanged.
 pub record LeavesFetches (rows : List Row) (s : Step) (starved : Bool) (done : Effects) : Type 0
   where
     pub running : fetches (events (making rows s starved done)) ≡ fetches (events rows)

@@ -109,12 +109,12 @@ impl Tables {
     }
 
     /// Does the step that handles a datagram that is not a look ([`is_look`](crate::is_look)). The
-    /// moment is at most 10^15; one earlier than the tables' moment is raised to it. `out` is
-    /// empty. An admitted write leaves a job to the worker.
+    /// moment is at most 10^15 milliseconds; one earlier than the tables' moment is raised to it.
+    /// `out` is empty. An admitted write leaves a job to the worker.
     ///
-    /// These do not allocate: a request that is refused by its content alone, a datagram that is
-    /// neither request nor response, and a response that belongs to no fetch. Nor does a write that
-    /// is a duplicate, that is challenged, or for which there is no room.
+    /// Three kinds of datagrams do not allocate: a request that is refused by its content alone, a
+    /// datagram that is neither request nor response, and a response that belongs to no fetch. Nor
+    /// does a write that is a duplicate, that is challenged, or for which there is no room.
     pub(crate) fn admit<B: Board>(
         &mut self,
         board: &mut B,

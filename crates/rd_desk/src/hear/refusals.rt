@@ -32,8 +32,8 @@ fn reply_to(refused: Refused) -> Reply<'static>
     }
 }
 
-/// Returns whether a refused request is ignored: it has an unrecognized critical option, and its
-/// message is non-confirmable (RFC 7252 section 5.4.1).
+/// Returns whether a refused request is ignored. It is if its message is non-confirmable and has an
+/// unrecognized critical option (RFC 7252 section 5.4.1).
 fn is_passed_over(kind: Kind4, refused: &Refused) -> bool
     ensures { result ≡ is_passed_over kind refused.now }
 {
@@ -43,7 +43,7 @@ fn is_passed_over(kind: Kind4, refused: &Refused) -> bool
     }
 }
 
-/// Refuses a request.
+/// Answers a request that is refused by its content alone, unless it is ignored.
 pub(crate) fn refuse(
     mids: &mut Mids,
     peer: Peer,

@@ -57,7 +57,7 @@ fn answer_unadmitted(mids: &mut Mids, peer: Peer, view: &View<'_>, keyed: Keyed,
     }
 }
 
-/// Returns whether the directory would send requests to the sender: the request is a simple
+/// Returns whether the directory would send requests to the sender. It does so only for a simple
 /// registration (RFC 9176 section 5.1).
 fn is_fetched_for(resource: &Resource) -> bool
     ensures { (path : Path)
@@ -73,8 +73,8 @@ fn is_fetched_for(resource: &Resource) -> bool
 }
 
 impl Tables {
-    /// Returns whether a write has yet to prove that its peer receives at its address: it is a
-    /// simple registration without an Echo value that is good now (RFC 9175 sections 2.3 and 2.6).
+    /// Returns whether a write has yet to prove that its peer receives at its address. A simple
+    /// registration has, unless its Echo value is good now (RFC 9175 sections 2.3 and 2.6).
     fn is_unproved(&self, peer: &Peer, request: &Request<'_>) -> bool
         ensures { (rows : List Row) (s : Step) (starved : Bool) (out : List (Peer
             × List ℕ)) (mids : Mids)

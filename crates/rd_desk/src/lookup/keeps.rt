@@ -97,8 +97,8 @@ impl Tables {
         Stepped::Done
     }
 
-    /// Does the step of a job to keep a listing or a source. `now` is at most 10^15; one earlier
-    /// than the tables' moment is raised to it. `out` is empty.
+    /// Does the step of a job to keep a listing or a source. `now` is at most 10^15 milliseconds;
+    /// one earlier than the tables' moment is raised to it. `out` is empty.
     pub(crate) fn keep(
         &mut self,
         now: Moment,

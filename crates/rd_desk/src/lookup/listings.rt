@@ -72,9 +72,9 @@ pub(crate) fn listed_at(
     Ok(Listed { body, tag })
 }
 
-/// Returns the listing of a lookup, or the source of a read, in a version at a moment, or `None` if
-/// the registration to read is not live. The moment is no earlier than the version's last entry and
-/// last sweep.
+/// Returns the listing of a lookup, or the source of a read, in a version at a moment. Returns
+/// `None` if the registration to read is not live. The moment is no earlier than the version's last
+/// entry and last sweep.
 pub(crate) fn found_at(
     alloc: Global,
     version: &Directory,
@@ -132,7 +132,7 @@ pub(crate) fn form(
     })
 }
 
-/// Returns who asks to observe by a request that is answered with a listing.
+/// Returns the client that asks to observe, from its request and the listing that answers it.
 pub(crate) fn joining_by(
     alloc: Global,
     peer: Peer,

@@ -1,5 +1,5 @@
-//! Lookups and reads whose answers depend on the journal: later blocks of a listing or a source,
-//! and observation (RFC 7959 section 2.4, RFC 7641 sections 3 and 4.1).
+//! Lookups and reads whose answers depend on the journal. They request a later block of a listing
+//! or a source, or begin or end an observation (RFC 7959 section 2.4, RFC 7641 sections 3 and 4.1).
 ghost use Rattle.std.specs.Prelude.{◌≡◌, ◌<◌, ◌^◌, ℕ, Bool, true, false, List, length, Some};
 ghost use Rattle.std.specs.Prelude.{None, IfOk, IfSome, OnErr, is_some};
 ghost use Rattle.std.specs.Arc.{arc_value};
@@ -349,8 +349,8 @@ impl Tables {
         Stepped::Done
     }
 
-    /// Handles a lookup that depends on the journal: one of a later block, where Observe is
-    /// ignored, or one that begins or ends an observation.
+    /// Handles a lookup that depends on the journal. It requests a later block, in which case its
+    /// Observe value is ignored, or it begins or ends an observation.
     pub(crate) fn hear_lookup(
         &mut self,
         mids: &mut Mids,

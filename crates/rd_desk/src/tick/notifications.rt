@@ -1,5 +1,5 @@
-//! New notifications: observers that are due get one, one after the other (RFC 7641 sections 1.3,
-//! 4.2 and 4.5).
+//! New notifications. Observers that are due get one, one observer after the other (RFC 7641
+//! sections 1.3, 4.2 and 4.5).
 ghost use Rattle.std.specs.Prelude.{◌≡◌, ◌<◌, ◌≤◌, ◌+◌, ◌++◌, ◌∷◌, [], ℕ, Bool, false, List};
 ghost use Rattle.std.specs.Prelude.{Some, None, IfOk, OnOk, length, slice_get};
 ghost use Rattle.std.specs.Arc.{arc_value};

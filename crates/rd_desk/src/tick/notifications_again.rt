@@ -1,4 +1,4 @@
-//! Notifications in flight whose timeout has expired: each is retransmitted, or its observer is
+//! Notifications in flight whose timeout has expired. Each is retransmitted, or its observer is
 //! removed (RFC 7252 section 4.2, RFC 7641 section 4.5).
 ghost use Rattle.std.specs.Prelude.{◌≡◌, ◌<◌, ◌≤◌, ◌+◌, ◌++◌, ◌∷◌, [], ℕ, Bool, List, Some};
 ghost use Rattle.std.specs.Prelude.{length, slice_get, drop};

@@ -44,7 +44,7 @@ use std::sync::Arc;
 use std::sync::ledger::Blank;
 use transfers::Answer;
 
-/// The most notifications that one tick builds.
+/// The largest number of notifications that one tick builds.
 pub(crate) const MAX_NOTIFICATIONS: usize = 64;
 
 /// What is planned for an observer whose listing is examined.
@@ -92,7 +92,8 @@ fn block_of_notification(szx: u8) -> Option<Block>
     })
 }
 
-/// Returns the block that a notification names: the first, if its body is longer than that.
+/// Returns the block that a notification names. It names the first block if its body is longer than
+/// that, and none otherwise.
 fn block_named(szx: u8, body: &[u8]) -> Option<Block>
     ensures named { result ≡ planning_of.block_named szx body.now }
     ensures block { ForSome result IsBlock }

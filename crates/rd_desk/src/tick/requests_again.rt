@@ -1,4 +1,4 @@
-//! Requests of fetches whose timeout has expired: each is retransmitted, or its fetch ends (RFC
+//! Requests of fetches whose timeout has expired. Each is retransmitted, or its fetch ends (RFC
 //! 7252 section 4.2, RFC 9176 section 5.1).
 ghost use Rattle.std.specs.Prelude.{◌≡◌, ◌<◌, ◌≤◌, ◌+◌, ◌++◌, ◌∷◌, [], ℕ, Bool, List, Some};
 ghost use Rattle.std.specs.Prelude.{length, slice_get};

@@ -1,5 +1,5 @@
-//! The tick: does what becomes due as time passes (RFC 7252 section 4.2, RFC 7641 sections 1.3 and
-//! 4.5, RFC 9176 section 5).
+//! The tick, which does what becomes due as time passes (RFC 7252 section 4.2, RFC 7641 sections
+//! 1.3 and 4.5, RFC 9176 section 5).
 ghost use Rattle.std.specs.Prelude.{◌≡◌, ◌<◌, ◌≤◌, ◌^◌, [], ℕ, Bool, false, List, IfOk};
 ghost use Rattle.std.specs.Arc.{arc_value};
 ghost use Rattle.rd_base.specs.declared.peers.Peer.{Peer as Endpoint};
@@ -67,13 +67,15 @@ impl Tables {
         self.version = version;
     }
 
-    /// Does the step of a tick. `now` is at most 10^15; one earlier than the tables' moment is
-    /// raised to it. `out` is empty.
+    /// Does the step of a tick. `now` is at most 10^15 milliseconds; one earlier than the tables'
+    /// moment is raised to it. `out` is empty.
     ///
     /// Retransmits notifications, sends new ones to observers that are due, and retransmits
-    /// requests of fetches. Then drops what has expired or lapsed. After `Starved`, there are no
-    /// new notifications. No memory is needed unless an observer is due to whose peer no
-    /// notification is in flight: a sweep without memory leaves lapsed registrations stored.
+    /// requests of fetches. Then drops what has expired or lapsed. After `Starved`, no new
+    /// notification was sent.
+    ///
+    /// Needs no memory unless an observer is due to whose peer no notification is in flight. If
+    /// memory for the sweep is missing, lapsed registrations remain stored.
     pub(crate) fn tick(
         &mut self,
         now: Moment,

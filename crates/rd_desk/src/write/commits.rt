@@ -1,4 +1,4 @@
-//! Admitted writes, as they are done: the directory makes the requested change and answers (RFC
+//! Admitted writes, as they are done. The directory makes the requested change and answers (RFC
 //! 9176 section 5, RFC 7252 section 4.5).
 ghost use Rattle.std.specs.Prelude.{◌≡◌, ◌+◌, ◌<◌, ◌≤◌, ◌^◌, ℕ, Bool, [], List, length, Ok, IfOk};
 ghost use Rattle.std.specs.Prelude.{false};
@@ -152,8 +152,8 @@ impl Tables {
         }
     }
 
-    /// Does the step of an admitted write. `now` is at most 10^15; one earlier than the tables'
-    /// moment is raised to it. `out` is empty.
+    /// Does the step of an admitted write. `now` is at most 10^15 milliseconds; one earlier than
+    /// the tables' moment is raised to it. `out` is empty.
     pub(crate) fn commit<B: Board>(
         &mut self,
         board: &mut B,

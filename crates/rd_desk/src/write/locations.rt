@@ -37,7 +37,7 @@ use query_text::faultless_update_params;
 use rd_base::{Moment, Starved, UpdateParams};
 use std::alloc::Global;
 
-/// Returns the parameters of an update. They are not judged again.
+/// Returns the parameters of an update. Does not check them again.
 fn given_change(alloc: Global, updating: &Updating<'_>) -> Result<UpdateParams, Starved>
     ensures value { IfOk result (λ change. change
         ≡ update_values (queries_in (message_of updating.now.write.request))) }

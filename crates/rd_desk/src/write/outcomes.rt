@@ -1,4 +1,4 @@
-//! What is planned of a write before anything changes: its answer, and the version with its entry
+//! What is planned for a write before anything changes: its answer, and the version with its entry
 //! (RFC 9176 sections 5, 5.3.1, 5.3.2 and 5.3.3).
 ghost use Rattle.std.specs.Prelude.{◌≡◌, ◌≤◌, ◌^◌, ℕ, [], List, IfOk};
 ghost use Rattle.std.specs.Option.{ForSome};
@@ -90,8 +90,8 @@ fn bad_body_reply(fault: DraftFault) -> Result<ShortReply, Starved>
     }
 }
 
-/// Returns 2.01 with the location of a registration (RFC 9176 section 5), and with the block of the
-/// request, if it is one.
+/// Returns 2.01 with the location of a registration (RFC 9176 section 5). The answer names
+/// `block1`, if there is one.
 fn created(number: u64, block1: Option<Block>) -> ShortReply
     requires { ForSome block1 IsBlock }
     ensures { short_said result ≡ created_at number (block1_options block1) }
@@ -104,8 +104,8 @@ fn created(number: u64, block1: Option<Block>) -> ShortReply
     }
 }
 
-/// Returns 2.04 for replaced links (RFC 9176 section 5.3.3), with the block of the request, if it
-/// is one.
+/// Returns 2.04 for replaced links (RFC 9176 section 5.3.3). The answer names `block1`, if there is
+/// one.
 fn replaced_reply(block1: Option<Block>) -> ShortReply
     requires { ForSome block1 IsBlock }
     ensures { short_said result ≡ changed_with (block1_options block1) }

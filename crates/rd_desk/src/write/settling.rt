@@ -63,8 +63,8 @@ pub(crate) fn answer_short(
 }
 
 impl Tables {
-    /// Answers an admitted write and settles it by the answer: a duplicate gets the same octets.
-    /// Does not allocate.
+    /// Answers an admitted write and settles it by the answer, so that a duplicate gets the same
+    /// octets. Does not allocate.
     pub(crate) fn settle(
         &mut self,
         mids: &mut Mids,

@@ -8,7 +8,7 @@ ghost use Rattle.message_model.specs.Codes.{is_reserved};
 use message_model::Block;
 
 /// The answer to a write. It is short, because its octets are kept for duplicates of the write (RFC
-/// 7252 section 4.5): it has no body, and a diagnostic payload of at most 13 octets.
+/// 7252 section 4.5). It has no body, and a diagnostic payload of at most 13 octets.
 #[derive(Clone, Copy)]
 pub(crate) struct ShortReply {
     /// The code.
@@ -17,7 +17,7 @@ pub(crate) struct ShortReply {
     pub location: Option<u64>,
     /// The block of the answered request, for Block1.
     pub block1: Option<Block>,
-    /// The diagnostic payload of a refusal (RFC 7252 section 5.5.2), or nothing.
+    /// The diagnostic payload of a refusal (RFC 7252 section 5.5.2), empty if there is none.
     pub diagnostic: &'static [u8],
     pub ghost class: { is_reserved code ≡ false },
     pub ghost filled: { codes_of.empty < code },
@@ -30,7 +30,8 @@ impl ShortReply {
     ghost use Rattle.journal_model.specs.Effects as effects;
     ghost use Rattle.rd_desk.specs.parts.Replies.{short_said};
 
-    /// Returns an answer of a code with the diagnostic payload of a refusal, or with nothing.
+    /// Returns an answer with a code and the diagnostic payload of a refusal, which is empty if
+    /// there is none.
     pub(crate) fn plain(code: u8, diagnostic: &'static [u8]) -> ShortReply
         requires class { is_reserved code ≡ false }
         requires filled { codes_of.empty < code }

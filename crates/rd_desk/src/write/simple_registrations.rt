@@ -1,4 +1,4 @@
-//! Simple registrations: the directory answers, and then fetches the device's links itself (RFC
+//! Simple registrations. The directory answers, and then fetches the device's links itself (RFC
 //! 9176 section 5.1).
 ghost use Rattle.std.specs.Prelude.{◌≡◌, ◌<◌, ◌+◌, ℕ, Bool, [], ◌∷◌, ◌++◌, List, length, None};
 ghost use Rattle.message_model.specs.Codes as codes_of;
@@ -27,7 +27,7 @@ use message_model::codes::{CHANGED, SERVICE_UNAVAILABLE};
 use rd_request::{Request, given_params};
 use simple_registration::{AllowedParams, StartFault};
 
-/// Returns how many Message IDs the answer to a request of this type draws.
+/// Returns the number of Message IDs that the answer to a request of this type draws.
 fn drawn_for(kind: Kind4) -> u64
     ensures { result ≡ effects.drawn_for kind }
 {
@@ -38,8 +38,8 @@ fn drawn_for(kind: Kind4) -> u64
 }
 
 impl Tables {
-    /// Sends the 2.04 and settles the write by it, after its fetch has started. Whatever fetches
-    /// the tables have, they do not change.
+    /// Sends the 2.04 and settles the write by it, after its fetch has started. Does not change the
+    /// table of fetches.
     fn settle_beside_fetch(&mut self, mids: &mut Mids, write: &Write<'_>, out: &mut Outbox)
         requires room { length out.old < most_datagrams }
         ensures way { (fetches : Table) (rows : List Row) (s : Step) (starved : Bool) (place : ℕ)

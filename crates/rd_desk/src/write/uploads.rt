@@ -48,7 +48,7 @@ use rd_base::{Key, Peer};
 use rd_request::Request;
 use transfers::Upload;
 
-/// Returns 2.31 for a block that was stored and that more follow.
+/// Returns 2.31 for a block that was stored and that more blocks follow.
 fn continued(block: Block) -> ShortReply
     requires { IsBlock block }
     ensures { short_said result
