@@ -1,8 +1,8 @@
 -- The workers of a server, one more.
-use Rattle.std.proofs.Common.{◌≡◌, ℕ, ◌+◌, ◌<◌, ◌≤◌, List, [], ◌∷◌, ◌++◌, length, set, get_or}
-use Rattle.std.proofs.Common.{Option, Some, None, Result, refl, sym, ap, ◌∙◌, subst}
+use Rattle.std.proofs.Common.{◌≡◌, ℕ, ◌+◌, ◌<◌, ◌≤◌, List, ◌++◌, length, set, get_or}
+use Rattle.std.proofs.Common.{Option, Some, None, refl, sym, ap, ◌∙◌, subst}
 use Rattle.std.proofs.Common.{◌⊎◌, inl, inr, arith}
-use Rattle.std.specs.Prelude.{IfSome, IfNone}
+use Rattle.std.specs.Prelude.{IfSome}
 use Rattle.std.specs.List.{slice_get}
 use Rattle.std.proofs.lemmas.Bool.{cases_lt}
 use Rattle.std.proofs.lemmas.List.{get_or_default, get_or-set_same, get_or-set_other}
@@ -15,7 +15,6 @@ use Rattle.rd_seat.specs.Runs.{HasCalled}
 use Rattle.rd_seat.proofs.SeatRuns.{hall_after, calls_go_on}
 use Rattle.rd_server.specs.declared.serving.ends.End.{End}
 use Rattle.rd_server.specs.serving.Sendings.{all_sent}
-use Rattle.rd_server.specs.serving.Servers as servers
 use Rattle.rd_server.specs.serving.Servers.{EndServes}
 use Rattle.rd_server.specs.serving.Turns.{calls_of}
 use Rattle.tcp_door.specs.Lanes.{LaneSeen}
@@ -29,7 +28,6 @@ use Rattle.joint_server.specs.Posts.{
   ServesBy,
   seat_of,
   seated,
-  stand_seated,
 }
 use Rattle.joint_server.specs.Standing.{AttendsDoor}
 use Rattle.joint_server.proofs.StandLaws.{stand_called, stand_hall}

@@ -1,7 +1,7 @@
 -- Connections that one worker serves, one more.
-use Rattle.std.proofs.Common.{◌≡◌, ℕ, ◌+◌, ◌≤◌, List, [], ◌∷◌, ◌++◌, length}
-use Rattle.std.proofs.Common.{Option, Some, None, Result, Ok, Err, refl, sym, ap, subst, ◌∙◌}
-use Rattle.std.proofs.Common.{◌*◌, append_assoc, arith}
+use Rattle.std.proofs.Common.{◌≡◌, ℕ, ◌+◌, ◌≤◌, List, [], ◌∷◌, ◌++◌}
+use Rattle.std.proofs.Common.{Option, Some, None, Ok, Err, refl, sym, ap, subst, ◌∙◌}
+use Rattle.std.proofs.Common.{append_assoc, arith}
 use Rattle.std.specs.Prelude.{IfSome}
 use Rattle.rd_base.specs.Outside.{Rose}
 use Rattle.rd_seat.specs.Chains.{Chain}
@@ -12,7 +12,7 @@ use Rattle.rd_seat.specs.Runs.{HasCalled}
 use Rattle.rd_seat.proofs.SeatRuns.{hall_after, calls_go_on}
 use Rattle.rd_server.specs.declared.serving.served.ServeFault.{ServeFault}
 use Rattle.rd_server.specs.declared.serving.served.ServeFault.TheVariants as fault
-use Rattle.tcp_door.specs.Lanes.{LaneSeen, IsShut, IsPeerOf}
+use Rattle.tcp_door.specs.Lanes.{LaneSeen, IsPeerOf}
 use Rattle.coap_stream.specs.Calls.{as_they_came}
 use Rattle.coap_stream.specs.Serving.{Connection}
 use Rattle.coap_stream.specs.Talks.{calls_of}
@@ -22,7 +22,6 @@ use Rattle.joint_server.specs.Standing.{
   AttendsDoor,
   IsFew,
   IsTurned,
-  Stands,
   StandsSo,
   TurnMade,
   WasAttended,

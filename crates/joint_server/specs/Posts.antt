@@ -1,20 +1,18 @@
 -- The workers of a server over UDP and TCP: what each has before its service and after it.
-use Rattle.std.specs.Prelude.{◌≡◌, ℕ, ◌<◌, ◌^◌, List, [], ◌∷◌, ◌++◌, length, slice_index_or}
-use Rattle.std.specs.Prelude.{Option, Some, None, Result, Ok, Err, IfOk, IfSome, IfNone, All, ⊤}
+use Rattle.std.specs.Prelude.{◌≡◌, ℕ, ◌<◌, ◌^◌, List, ◌++◌, length, slice_index_or}
+use Rattle.std.specs.Prelude.{Option, Some, None, Err, IfOk, IfSome, IfNone, All, ⊤}
 use Rattle.udp_link.specs.declared.links.Link as links
 use Rattle.udp_link.specs.declared.clocks.Clock as clocks
 use Rattle.rd_seat.specs.Callers.{caller_seen}
 use Rattle.rd_seat.specs.Seats.{HallSeen, SeatSeen, IsOfHall, new_seat}
 use Rattle.rd_seat.specs.Runs as runs
-use Rattle.rd_seat.specs.Runs.{HasCalled, IsSeatAfter}
-use Rattle.rd_server.specs.declared.serving.ends.End.{End}
+use Rattle.rd_seat.specs.Runs.{HasCalled}
 use Rattle.rd_server.specs.declared.serving.served.ServeFault.TheVariants as fault
 use Rattle.rd_server.specs.serving.Servers as servers
-use Rattle.rd_server.specs.serving.Servers.{EndServes, end_seen}
+use Rattle.rd_server.specs.serving.Servers.{end_seen}
 use Rattle.rd_server.specs.serving.Service.{Serves, CountsTold}
 use Rattle.rd_server.specs.serving.Sums.{IsBelow, worker_most}
 use Rattle.tcp_door.specs.Lanes.{LaneSeen}
-use Rattle.joint_server.specs.declared.attended.Attended.{Attended}
 use Rattle.joint_server.specs.declared.posts.Post.{Post}
 use Rattle.joint_server.specs.declared.posts.Post.TheVariants as post
 use Rattle.joint_server.specs.declared.posts.Stand.{Stand}

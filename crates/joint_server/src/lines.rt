@@ -1,5 +1,5 @@
 //! How a server over UDP and TCP ends: the sums of its workers are written.
-ghost use Rattle.std.specs.Prelude.{◌≡◌, ◌≤◌, ◌*◌, ◌^◌, All, IfOk, length};
+ghost use Rattle.std.specs.Prelude.{◌≡◌, ◌≤◌, All, IfOk, length};
 ghost use Rattle.std.specs.String.{string_bytes};
 ghost use Rattle.rd_server.specs.serving.Endings.{served_line};
 ghost use Rattle.joint_server.specs.Lines as spec;

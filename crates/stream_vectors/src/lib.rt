@@ -1,12 +1,16 @@
-//! The results of a reader of streams for octets that are cut as a line says, line by line.
+//! The results of a reader of streams and of a device's requests, for octets that are cut as a line
+//! says, line by line.
 #![tactic(auto)]
 
 mod cuttings;
 mod feeds;
 mod frames;
+mod pieces;
+mod sessions;
 
 use cuttings::cuts;
 use feeds::feed;
+use sessions::session;
 use std::alloc::Global;
 use vector_words::NoAnswer;
 
@@ -19,6 +23,7 @@ pub fn answer(alloc: Global, call: &str, said: &str) -> Result<Option<String>, N
     let answer = match call {
         "feed" => feed(alloc, said)?,
         "cuts" => cuts(alloc, said)?,
+        "session" => session(alloc, said)?,
         _ => return Ok(None),
     };
     Ok(Some(answer))

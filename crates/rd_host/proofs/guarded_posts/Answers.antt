@@ -1,4 +1,4 @@
-use Rattle.std.proofs.Common.{◌≡◌, ◌+◌, ◌≤◌, Result, Ok, Err, IfOk, vec_len, arith}
+use Rattle.std.proofs.Common.{Result, Ok, Err, IfOk, arith}
 use Rattle.rd_host.proofs.guarded_posts.Goals as goal
 
 if_ok : {T E : Type 0} (P Q : T → Type 0) (r : Result T E) → ((x : T) → P x → Q x) → IfOk r P

@@ -1,6 +1,6 @@
 use denote.Exit.{no}
 use denote.Param.Send.{arg_send, param_send}
-use Rattle.std.proofs.Common.{◌≤◌, ◌≡◌, length, vec_len, arith}
+use Rattle.std.proofs.Common.{◌≤◌, vec_len, arith}
 use Rattle.hosting.proofs.Crossing.{counted_send, guarded_send}
 use Rattle.rd_host.proofs.serve_jointly.Goals as goal
 

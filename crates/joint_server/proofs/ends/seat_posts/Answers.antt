@@ -1,6 +1,4 @@
-use Rattle.std.proofs.Common.{◌≡◌, ℕ, ◌+◌, ◌<◌, ◌≤◌, List, set, get_or, subst, sym, ap, arith}
-use Rattle.joint_server.specs.declared.posts.Post.{Post}
-use Rattle.joint_server.specs.Posts.{seated}
+use Rattle.std.proofs.Common.{arith}
 use Rattle.rd_server.proofs.service.EndLaws.{took_first}
 use Rattle.joint_server.proofs.PostLaws.{seated-by, left-by}
 use Rattle.joint_server.proofs.ends.seat_posts.Goals as goal
