@@ -18,8 +18,14 @@ use Rattle.std.proofs.Common.{
   ◌∙◌,
   arith,
   take_all,
+  Option,
+  Some,
+  None,
+  get_or,
 }
-use Rattle.std.specs.List.{AllByRecursion}
+use Rattle.std.specs.List.{AllByRecursion, slice_get}
+use Rattle.std.proofs.Math.Seq.{get_or-append_seam}
+use Rattle.std.proofs.lemmas.Option.{slice_get-get_or}
 use Rattle.std.proofs.lemmas.List.{
   take-append-le,
   drop-append-le,
@@ -88,3 +94,30 @@ pushed octets octets_now more spans spans_now peer start end before o p q s e wi
     ∙ (shown-push octets more spans peer start end s (e ∙ (ap length o ∙ length-append octets more))
     within
     ∙ ap (λ (ds : List (Peer × List ℕ)). ds ++ (peer, more) ∷ []) q))
+
+-- what is found at the last index
+at_last : {X : Type 0} (xs front : List X) (x : X) (i : ℕ)
+    → xs ≡ front ++ x ∷ []
+    → i + 1 ≡ length xs
+    → slice_get xs i ≡ Some x
+at_last xs front x i is at =
+    let size = ap length is ∙ length-append front (x ∷ []) in
+    let there : i ≡ length front = omega (arith, size, at) in
+    slice_get-get_or xs i x (omega (arith, at))
+    ∙ ap Some (ap (λ ys. get_or ys i x) is
+    ∙ (ap (λ (k : ℕ). get_or (front ++ x ∷ []) k x) there ∙ get_or-append_seam front x [] x))
+
+-- Returns the octets that were found, or none.
+abbrev pub octets_or_none : Option (Peer × List ℕ) → List ℕ
+octets_or_none None = []
+octets_or_none (Some d) = d.1
+
+-- what is found at the last index of an outbox are the octets of its last datagram
+pub last_found : (found : Option (Peer × List ℕ)) (ds front : List (Peer × List ℕ)) (peer : Peer)
+    (octets : List ℕ) (i : ℕ)
+    → found ≡ slice_get ds i
+    → i + 1 ≡ length ds
+    → ds ≡ front ++ (peer, octets) ∷ []
+    → octets_or_none found ≡ octets
+last_found found ds front peer octets i e at is =
+    ap octets_or_none (e ∙ at_last ds front (peer, octets) i is at)

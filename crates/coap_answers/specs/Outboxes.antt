@@ -5,7 +5,7 @@ use Rattle.std.specs.Vec.{vec_capacity}
 use Rattle.rd_base.specs.declared.peers.Peer.{Peer}
 use Rattle.coap_message.specs.PartialMessages.{longest_datagram}
 use Rattle.coap_answers.specs.declared.outbox.Span.{Span}
-use Rattle.coap_answers.specs.declared.outbox.Outbox.TheInside.{Inside}
+use Rattle.coap_answers.specs.declared.outbox.Datagrams.TheInside.{Inside}
 
 -- The most datagrams that one step sends.
 abbrev pub most_datagrams : ℕ

@@ -64,10 +64,10 @@ pub fn answer_challenge(
         → Sends (answering s (message_in view.now) (challenge value) notes) out.old out.new
         mids.old mids.new }
 {
-    let mut writer = begin_answer(mids, view, &unauthorized());
-    put_echo(&mut writer, &value);
-    let Ok(datagram) = writer.finish(b"") else {
+    begin_answer(&mut out.writer, mids, view, &unauthorized());
+    put_echo(&mut out.writer, &value);
+    let Ok(datagram) = out.writer.finish(b"") else {
         unreachable!()
     };
-    out.push(peer, Datagram { octets: datagram });
+    out.datagrams.push(peer, Datagram { octets: datagram });
 }

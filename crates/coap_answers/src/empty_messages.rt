@@ -9,7 +9,7 @@ ghost use Rattle.coap_answers.specs.Outboxes.{most_datagrams};
 ghost use Rattle.coap_answers.specs.Sendings.{Sends};
 
 use crate::{Datagram, Outbox};
-use coap_message::{Kind4, TokenRef, Writer};
+use coap_message::{Kind4, TokenRef};
 use rd_base::Peer;
 
 /// Sends an empty message of this type: a Reset, as for a ping, or an acknowledgement (RFC 7252
@@ -26,9 +26,9 @@ pub fn send_empty(peer: Peer, kind: Kind4, mid: u16, out: &mut Outbox)
         → Sends (sending s.peer (spelling (effects.empty_message kind mid))) out.old out.new mids
         mids }
 {
-    let mut writer = Writer::start(kind, 0, mid, TokenRef { octets: b"" });
-    let Ok(datagram) = writer.finish(b"") else {
+    out.writer.restart(kind, 0, mid, TokenRef { octets: b"" });
+    let Ok(datagram) = out.writer.finish(b"") else {
         unreachable!()
     };
-    out.push(peer, Datagram { octets: datagram });
+    out.datagrams.push(peer, Datagram { octets: datagram });
 }

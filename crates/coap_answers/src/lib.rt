@@ -19,5 +19,5 @@ pub use empty_messages::send_empty;
 pub use mids::Mids;
 pub use outbox::Outbox;
 pub use refusals::{refusal_code, refusal_diagnostic};
-pub use replies::{Reply, answer, begin_answer, spell_notification};
+pub use replies::{Reply, answer, spell_notification};
 pub use server_errors::{answer_full, answer_starved, internal_server_error};

@@ -267,31 +267,30 @@ fn answer_mid(mids: &mut Mids, kind: Kind4, mid: u16) -> u16
     }
 }
 
-/// Begins the answer to a request, and appends its options.
+/// Begins the answer to a request in a writer, in place of what this has written, and appends its
+/// options.
 ///
 /// # Requires
 ///
 /// `reply` has a code that is neither empty nor reserved, an Observe value below 2^24 if any, valid
 /// blocks, and a payload of at most 1,024 octets.
-#[inline(always)]
-pub fn begin_answer(mids: &mut Mids, view: &View<'_>, reply: &Reply<'_>) -> Writer
+pub(crate) fn begin_answer(writer: &mut Writer, mids: &mut Mids, view: &View<'_>, reply: &Reply<'_>)
     requires reply { IsReply reply.now }
     ensures begun { (s : Step)
         → s.worker ≡ mids.old.worker
         → s.drawn ≡ mids.old.drawn
-        → with_payload result reply.now.payload.now
+        → with_payload writer.new reply.now.payload.now
         ≡ effects.answer s (message_in view.now) (reply_said reply.now) }
-    ensures open_end { result.payload ≡ [] }
-    ensures filled { codes_of.empty < result.code }
-    ensures ends { end_number 0 result.options ≤ table.block1 }
-    ensures size { length (spelling result) ≤ 200 }
+    ensures open_end { writer.new.payload ≡ [] }
+    ensures filled { codes_of.empty < writer.new.code }
+    ensures ends { end_number 0 writer.new.options ≤ table.block1 }
+    ensures size { length (spelling writer.new) ≤ 200 }
     ensures worker { mids.new.worker ≡ mids.old.worker }
     ensures drawn { mids.new.drawn ≡ drawing (drawn_for view.now.kind) mids.old.drawn }
 {
     let mid = answer_mid(mids, view.kind, view.mid);
-    let mut writer = Writer::start(answer_kind(view.kind), reply.code, mid, view.token);
-    put_options(&mut writer, reply);
-    writer
+    writer.restart(answer_kind(view.kind), reply.code, mid, view.token);
+    put_options(writer, reply);
 }
 
 /// Sends the answer to a request (RFC 7252 section 5.3.1). Draws a Message ID if the request was
@@ -309,11 +308,11 @@ pub fn answer(mids: &mut Mids, peer: Peer, view: &View<'_>, reply: &Reply<'_>, o
         → Sends (answering s (message_in view.now) (reply_said reply.now) notes) out.old out.new
         mids.old mids.new }
 {
-    let mut writer = begin_answer(mids, view, reply);
-    let Ok(datagram) = writer.finish(reply.payload) else {
+    begin_answer(&mut out.writer, mids, view, reply);
+    let Ok(datagram) = out.writer.finish(reply.payload) else {
         unreachable!()
     };
-    out.push(peer, Datagram { octets: datagram });
+    out.datagrams.push(peer, Datagram { octets: datagram });
 }
 
 /// Returns the octets of a notification (RFC 7641 section 4.2): a confirmable message with a reply,

@@ -87,7 +87,6 @@ impl Writer {
     ///
     /// The class of the code is not reserved. An empty message, of code 0.00, has no token (RFC
     /// 7252 sections 3 and 4.1).
-    #[inline(always)]
     pub fn start(kind: Kind4, code: u8, mid: u16, token: TokenRef<'_>) -> Writer
         requires class { codes_of.is_reserved code ≡ false }
         requires empty { code ≡ codes_of.empty → token.octets.now ≡ [] }
@@ -100,6 +99,21 @@ impl Writer {
             length,
             last: 0,
         }
+    }
+
+    /// Begins another message in place of this one, with neither options nor payload.
+    ///
+    /// # Requires
+    ///
+    /// The class of the code is not reserved. An empty message, of code 0.00, has no token (RFC
+    /// 7252 sections 3 and 4.1).
+    pub fn restart(&mut self, kind: Kind4, code: u8, mid: u16, token: TokenRef<'_>)
+        requires class { codes_of.is_reserved code ≡ false }
+        requires empty { code ≡ codes_of.empty → token.octets.now ≡ [] }
+        ensures { self.new ≡ bare_message kind code mid token.entry.octets.now }
+    {
+        self.length = put_header(&mut self.octets, kind, code, mid, token);
+        self.last = 0;
     }
 
     /// Adds an option (RFC 7252 section 3.1).

@@ -60,9 +60,12 @@ fn refusal_of(error: &io::Error) -> Refusal {
 /// The two handles of a connection.
 pub(crate) type Shared = (Arc<TcpStream>, Arc<TcpStream>);
 
-/// Shares a connection, and limits how long its reads and writes wait. Returns `None` if the
-/// connection accepts no such limits, or if memory runs out.
+/// Shares a connection, and limits how long its reads and writes wait. Each write is sent at once,
+/// if the connection accepts that mode. Otherwise the system keeps a response back until the client
+/// has acknowledged the one before, which a client may put off for 40 milliseconds. Returns `None`
+/// if the connection accepts no limits, or if memory runs out.
 fn shared(alloc: Global, stream: TcpStream) -> Option<Shared> {
+    let _ = stream.set_nodelay(true);
     let reading = stream.set_read_timeout(Some(Duration::from_millis(WAIT)));
     let writing = stream.set_write_timeout(Some(Duration::from_millis(WRITE_WAIT)));
     if reading.is_err() || writing.is_err() {

@@ -36,12 +36,15 @@ use Rattle.message_model.specs.Message.{Message, longest_token, end_number}
 use Rattle.message_model.specs.Numbers.{uint_bytes}
 use Rattle.message_model.specs.Refusals.{link_format}
 use Rattle.message_model.specs.Spelling.{first_extended, first_long, spelling}
+use Rattle.event_model.specs.declared.notes.Note.{Note}
 use Rattle.journal_model.specs.declared.steps.Step.{Step}
 use Rattle.journal_model.specs.declared.steps.StepKind.TheVariants as step
-use Rattle.journal_model.specs.Effects.{answer}
+use Rattle.journal_model.specs.Effects as effects
+use Rattle.journal_model.specs.Effects.{answer, answering}
 use Rattle.journal_model.specs.MessageSizes.{extension_size, options_size, payload_size}
 use Rattle.journal_model.proofs.MessageSizeLaws.{message_size-spelling, options_size-append}
 use Rattle.journal_model.proofs.sends.BodyAnswers.{uint_bytes-length, block_value-length}
+use Rattle.coap_answers.specs.declared.mids.Mids.{Mids}
 use Rattle.coap_answers.specs.declared.replies.Reply.{Reply}
 use Rattle.coap_answers.specs.Replies.{
   location_option,
@@ -50,6 +53,7 @@ use Rattle.coap_answers.specs.Replies.{
   options_of,
   reply_said,
 }
+use Rattle.coap_answers.specs.Sendings.{IsStepOf, Sends}
 use Rattle.rd_desk.specs.declared.write.short_replies.ShortReply.{ShortReply}
 use Rattle.rd_desk.specs.parts.Replies.{as_reply}
 
@@ -155,21 +159,42 @@ short_answer s m r token short small =
     let most = short.payload in
     omega (arith, size, options, payload, most, token)
 
--- so it is of whoever writes the answer to a request for a worker
-pub short_written : (worker drawn : ℕ) (sender : Peer) (m written : Message) (r : Reply)
-    → ((s : Step) → s.worker ≡ worker → s.drawn ≡ drawn → written ≡ answer s m (reply_said r))
+-- the last datagram after an answer was sent is this answer
+pub answer_last : (s : Step) (m : Message) (reply : effects.Reply) (notes : List Note)
+    (before now : List (Peer × List ℕ)) (mids mids_now : Mids) (last : List ℕ)
+    → Sends (answering s m reply notes) before now mids mids_now
+    → ((front : List (Peer × List ℕ)) (peer : Peer) (octets : List ℕ)
+    → now ≡ front ++ (peer, octets) ∷ []
+    → last ≡ octets)
+    → last ≡ spelling (answer s m reply)
+unfolding answering
+answer_last s m reply notes before now mids mids_now last sends is =
+    is before s.peer (spelling (answer s m reply)) sends.sent
+
+-- and short
+pub last_short : (mids mids_now : Mids) (sender : Peer) (m : Message) (r : Reply)
+    (before now : List (Peer × List ℕ)) (last : List ℕ)
+    → ((s : Step) (notes : List Note)
+    → IsStepOf s sender mids
+    → Sends (answering s m (reply_said r) notes) before now mids mids_now)
+    → ((front : List (Peer × List ℕ)) (peer : Peer) (octets : List ℕ)
+    → now ≡ front ++ (peer, octets) ∷ []
+    → last ≡ octets)
     → length m.token ≤ longest_token
     → IsShort r
-    → ForSome r.location (λ n. n < 2 ^ 64) → length (spelling written) ≤ 64
-short_written worker drawn sender m written r is token short small =
+    → ForSome r.location (λ n. n < 2 ^ 64)
+    → length last ≤ 64
+last_short mids mids_now sender m r before now last sends is token short small =
     let s : Step = record {
       kind = step.Tick;
-      worker = worker;
+      worker = mids.worker;
       handed = record { 0 = 0 };
       word = 0;
       peer = sender;
       datagram = [];
-      drawn = drawn;
+      drawn = mids.drawn;
     } in
-    subst (λ (w : Message). length (spelling w) ≤ 64) (sym (is s refl refl))
+    let sent = sends s [] (record { peer_is = refl; worker = refl; drawn = refl }) in
+    let same = answer_last s m (reply_said r) [] before now mids mids_now last sent is in
+    subst (λ (octets : List ℕ). length octets ≤ 64) (sym same)
     (short_answer s m r token short small)

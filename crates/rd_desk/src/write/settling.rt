@@ -22,7 +22,7 @@ use crate::tables::Tables;
 use crate::write::asked::Write;
 use crate::write::short_replies::ShortReply;
 use crate::{Mids, Outbox};
-use coap_answers::{Datagram, Reply, answer, begin_answer, internal_server_error};
+use coap_answers::{Reply, answer, internal_server_error};
 use coap_message::View;
 use exchange_core::Octets;
 use rd_base::Peer;
@@ -54,12 +54,8 @@ pub(crate) fn answer_short(
         block1: reply.block1,
         payload: reply.diagnostic,
     };
-    let mut writer = begin_answer(mids, view, &said);
-    let Ok(datagram) = writer.finish(reply.diagnostic) else {
-        unreachable!()
-    };
-    out.push(peer, Datagram { octets: datagram });
-    Octets::of(datagram)
+    answer(mids, peer, view, &said, out);
+    Octets::of(out.last())
 }
 
 impl Tables {

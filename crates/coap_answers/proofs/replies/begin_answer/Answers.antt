@@ -6,7 +6,7 @@ use Rattle.coap_answers.proofs.replies.begin_answer.Goals as goal
 pub put_options-requires-clause-room : goal.put_options-requires-clause-room
 put_options-requires-clause-room c =
     let size =
-    ap (λ m. length (spelling m)) c.start-writer.ensures
+    ap (λ m. length (spelling m)) c.restart.ensures
     ∙ begun_size c.answer_kind.result c.args.reply.now.code c.answer_mid-mid.result
     c.args.view.now.token.octets.now in
     omega (arith, size, c.args.view.now.token.short)

@@ -1,6 +1,6 @@
 use Rattle.std.proofs.Common.{◌≡◌, ◌++◌, true, not, ap, ◌∙◌, arith, is_ok}
 use Rattle.coap_answers.proofs.OutboxLaws.{pushed}
-use Rattle.coap_answers.proofs.outbox.Outbox.push.Goals as goal
+use Rattle.coap_answers.proofs.outbox.Datagrams.push.Goals as goal
 
 pub returns : goal.returns
 returns c =
