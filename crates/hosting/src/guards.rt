@@ -151,7 +151,7 @@ impl Guard {
     }
 
     /// Returns whether the guard admits every datagram.
-    pub(crate) fn is_open(&self) -> bool {
+    pub fn is_open(&self) -> bool {
         self.allow.is_empty() && self.criteria.is_none() && !self.has_shares && !self.has_lookups
     }
 

@@ -49,11 +49,6 @@ type HostContext<'a> = Context<HostLink<'a, HostRuntime>, HostClock<'a, HostRunt
 /// The ends of workers whose links have a guard and are counted.
 type GuardedEnds<'a, R, L, C, W> = Vec<End<GuardedLink<'a, R, CountedLink<'a, L, C, W>, C>, C>>;
 
-/// The workers whose links have a guard and are counted, and those that accept connections.
-type GuardedPosts<'a, R, L, E, C, W> = Vec<
-    Post<GuardedLink<'a, R, CountedLink<'a, L, C, W>, C>, E, C>,
->;
-
 /// Returns what the arguments want.
 fn wanted(rt: &HostRuntime) -> Result<Wanted, Ending>
     ensures { IfOk result IsWanted }
@@ -145,6 +140,7 @@ fn doorways_at(
 fn connections_left(rt: &HostRuntime, plan: &HostPlan, tcp: &List<Peer>) -> u8
     ensures few { result ≤ plan.now.connections }
     ensures none { length tcp.now ≡ 0 → result ≡ 0 }
+    ensures some { 1 ≤ length tcp.now → result ≡ plan.now.connections }
 {
     if !tcp.is_empty() {
         return plan.connections;
@@ -163,9 +159,8 @@ fn plan_at(plan: HostPlan, listen: List<Peer>, tcp: List<Peer>, connections: u8)
     requires few { length listen ≤ length plan.listen }
     requires connections { connections ≤ plan.connections }
     ensures plan { IsPlan result }
-    ensures listen { result.listen ≡ listen }
-    ensures tcp { result.tcp ≡ tcp }
-    ensures connections { result.connections ≡ connections }
+    ensures value { result
+        ≡ record plan { listen = listen; tcp = tcp; connections = connections } }
 {
     HostPlan {
         listen,
@@ -194,6 +189,13 @@ struct Shared {
     door_counts: DoorCounts,
     /// The start of the program, from which the clocks count.
     origin: Origin,
+}
+
+impl Shared {
+    /// Returns whether the guard admits every datagram and nothing is counted.
+    fn is_plain(&self) -> bool {
+        self.guard.is_open() && self.counts.is_none()
+    }
 }
 
 /// Returns the counters of a server of this plan, unless the plan is quiet.
@@ -287,6 +289,21 @@ fn teller_of<'a, C: Drop, W: Drop>(
 ) -> Option<Teller<'a, C, W>> {
     let counts = counts?;
     Some(Teller::of(counts, alloc, clock, out))
+}
+
+/// Returns the ends of these workers, with nothing over their links.
+fn plain<L: Drop, C: Drop, W: Drop>(
+    alloc: Global,
+    contexts: Vec<Context<L, C, W>>,
+) -> Result<Vec<End<L, C>>, Starved>
+    ensures { IfOk result (λ ends. vec_len ends ≡ vec_len contexts) }
+{
+    let mut ends = Vec::with_capacity(alloc, contexts.len())?;
+    'contexts: for context in contexts {
+        let Context { link, clock, .. } = context;
+        ends.push_reserved(End::of(link, clock));
+    }
+    Ok(ends)
 }
 
 /// Returns the ends of these workers, with a guard and a counter over each link.
@@ -505,31 +522,6 @@ fn serve_above<R: Threads + Wait + Sync + AllocGlobal, L: Link + Send, C: Clock 
     Ok(serve_seats(handles, hall, ends, &OpenGate, plan.turns, &mut out))
 }
 
-/// Serves as [`serve_above`] does, behind the guard, and counts what passes.
-///
-/// # Errors
-///
-/// `Starved` if memory runs out before the ends are served.
-fn serve_guarded<
-    R: Threads + Wait + Sync + AllocGlobal,
-    L: Link + Send + Drop,
-    C: Clock + Send + Drop,
-    W: Write + Send + Drop,
->(
-    rt: &HostRuntime,
-    handles: &R,
-    shared: &Shared,
-    contexts: Vec<Context<L, C, W>>,
-    plan: &HostPlan,
-    first: u64,
-) -> Result<ServeStatus, Starved>
-    requires contexts { (1 ≤ vec_len contexts) × (vec_len contexts ≤ 16) }
-    requires turns { plan.now.turns ≤ 10 ^ 12 }
-{
-    let mut ends = guarded(handles, rt.alloc(), shared, contexts)?;
-    serve_above(rt, handles, &mut ends, plan, first)
-}
-
 /// Creates the workers: first those over UDP, from the ends, then those over TCP, from the stands.
 fn joint_posts<L: Drop, E: Drop, C: Drop>(
     alloc: Global,
@@ -547,23 +539,6 @@ fn joint_posts<L: Drop, E: Drop, C: Drop>(
         posts.push_reserved(Post::Tcp(stand));
     }
     Ok(posts)
-}
-
-/// Creates the workers: first those over UDP, with a guard and a counter over each link, then those
-/// over TCP.
-fn guarded_posts<'a, R, L: Drop, E: Drop, C: Drop, W: Drop>(
-    rt: &'a R,
-    alloc: Global,
-    shared: &'a Shared,
-    contexts: Vec<Context<L, C, W>>,
-    stands: Vec<Stand<E, C>>,
-) -> Result<GuardedPosts<'a, R, L, E, C, W>, Starved>
-    requires some { 1 ≤ vec_len contexts }
-    requires few { vec_len contexts + vec_len stands ≤ 16 }
-    ensures { IfOk result (λ posts. (1 ≤ vec_len posts) × (vec_len posts ≤ 16)) }
-{
-    let ends = guarded(rt, alloc, shared, contexts)?;
-    joint_posts(alloc, ends, stands)
 }
 
 /// Makes a hall for the workers, begins its run above `first`, and serves.
@@ -599,12 +574,45 @@ fn serve_jointly_above<
     Ok(serve_posts(handles, hall, posts, &OpenGate, plan.turns, &mut out))
 }
 
-/// Serves as [`serve_jointly_above`] does, behind the guard, and counts what passes.
+/// Makes a hall for the workers of these ends and stands, begins its run above `first`, and serves.
+///
+/// Prints the line of its start on standard error, and serves even if that cannot be written.
 ///
 /// # Errors
 ///
 /// `Starved` if memory runs out before the workers are served.
-fn serve_jointly<
+fn serve_all<
+    R: Threads + Wait + Sync + AllocGlobal,
+    L: Link + Send + Drop,
+    E: Entrance + Send + Drop,
+    C: Clock + Send + Drop,
+>(
+    rt: &HostRuntime,
+    handles: &R,
+    ends: Vec<End<L, C>>,
+    stands: Vec<Stand<E, C>>,
+    plan: &HostPlan,
+    first: u64,
+) -> Result<ServeStatus, Starved>
+    requires some { 1 ≤ vec_len ends }
+    requires few { vec_len ends + vec_len stands ≤ 16 }
+    requires turns { plan.now.turns ≤ 10 ^ 12 }
+{
+    if stands.is_empty() {
+        let mut ends = ends;
+        return serve_above(rt, handles, &mut ends, plan, first);
+    }
+    let mut posts = joint_posts(rt.alloc(), ends, stands)?;
+    serve_jointly_above(rt, handles, &mut posts, plan, first)
+}
+
+/// Serves as [`serve_all`] does, with a guard and a counter over each link, unless the plan asks
+/// for neither.
+///
+/// # Errors
+///
+/// `Starved` if memory runs out before the workers are served.
+fn serve<
     R: Threads + Wait + Sync + AllocGlobal,
     L: Link + Send + Drop,
     E: Entrance + Send + Drop,
@@ -623,8 +631,12 @@ fn serve_jointly<
     requires few { vec_len contexts + vec_len stands ≤ 16 }
     requires turns { plan.now.turns ≤ 10 ^ 12 }
 {
-    let mut posts = guarded_posts(handles, rt.alloc(), shared, contexts, stands)?;
-    serve_jointly_above(rt, handles, &mut posts, plan, first)
+    if shared.is_plain() {
+        let ends = plain(rt.alloc(), contexts)?;
+        return serve_all(rt, handles, ends, stands, plan, first);
+    }
+    let ends = guarded(handles, rt.alloc(), shared, contexts)?;
+    serve_all(rt, handles, ends, stands, plan, first)
 }
 
 /// Creates the stands of a plan, each in its own lane.
@@ -665,12 +677,7 @@ fn main(rt: HostRuntime) -> ExitCode {
         Err(ending) => return ending.exit(&rt),
     };
     let first = plan.begin.unwrap_or(shared.origin.begin());
-    let served = if stands.is_empty() {
-        serve_guarded(&rt, &rt, &shared, contexts, &plan, first)
-    } else {
-        serve_jointly(&rt, &rt, &shared, contexts, stands, &plan, first)
-    };
-    match served {
+    match serve(&rt, &rt, &shared, contexts, stands, &plan, first) {
         Ok(status) => Ending::of(status, &shared.crew).exit(&rt),
         Err(starved) => Ending::from(starved).exit(&rt),
     }

@@ -35,6 +35,7 @@ fn of_step(stepped: Stepped) -> Admitted
 }
 
 /// Returns the result of a step that leaves no job, without the case of a job.
+#[inline(always)]
 pub(crate) fn without_job(admitted: Admitted) -> Stepped
     ensures { is_starved_step result ≡ is_starved_admission admitted }
 {
@@ -59,6 +60,7 @@ pub(crate) fn is_starved(admitted: &Admitted) -> bool
 
 /// Returns which worker the end of the turn wakes. It wakes none if this worker now has a job,
 /// since the worker then takes the turn again to do it.
+#[inline(always)]
 pub(crate) fn wake_after(admitted: &Admitted) -> Wake {
     match admitted {
         Admitted::Held(_) => Wake::Nobody,
@@ -67,6 +69,7 @@ pub(crate) fn wake_after(admitted: &Admitted) -> Wake {
 }
 
 /// Takes the action on the desk. Puts the responses into `out`, which is empty.
+#[inline(always)]
 pub(crate) fn act(
     desk: &mut Desk<Publisher>,
     mids: &mut Mids,
