@@ -7,7 +7,7 @@ use Rattle.rd_base.specs.declared.peers.Host.TheVariants as host
 use Rattle.rd_base.specs.declared.peers.Peer.{Peer}
 use Rattle.hosting.specs.Networks.{host_of}
 
--- the port from 1 on after a colon, in decimal without a leading zero
+-- Returns the number, if it is at least 1.
 abbrev pub from_one : ℕ → Option ℕ
 from_one n = if nat_le 1 n then Some n else None
 
@@ -16,7 +16,7 @@ port_of [] = None
 port_of (c ∷ digits) =
     if c == 58 then option_and_then from_one (number_of 65535 digits) else None
 
--- the address, if it is an IPv4 address
+-- Returns the address, if it is an IPv4 address.
 abbrev pub only_v4 : Option Host → Option Host
 only_v4 None = None
 only_v4 (Some (host.V4 octets)) = Some (host.V4 octets)
@@ -32,7 +32,7 @@ with_port None port = None
 with_port (Some host) None = None
 with_port (Some host) (Some port) = Some (record { host = host; port = port })
 
--- an IPv4 address and its port
+-- Returns the IPv4 address that a text names, with this port.
 abbrev pub v4_at : List ℕ → Option ℕ → Option Peer
 v4_at text None = None
 v4_at text (Some at) = with_port (only_v4 (host_of (take at text))) (port_of (drop at text))
@@ -40,7 +40,7 @@ v4_at text (Some at) = with_port (only_v4 (host_of (take at text))) (port_of (dr
 abbrev pub v4_address : List ℕ → Option Peer
 v4_address text = v4_at text (position (λ octet. octet == 58) text)
 
--- an IPv6 address before a closing bracket, and its port
+-- Returns the IPv6 address that a text names before a closing bracket, with this port.
 abbrev pub v6_at : List ℕ → Option ℕ → Option Peer
 v6_at text None = None
 v6_at text (Some at) =
@@ -49,8 +49,8 @@ v6_at text (Some at) =
 abbrev pub v6_address : List ℕ → Option Peer
 v6_address text = v6_at text (position (λ octet. octet == 93) text)
 
--- The address and the port that a text names, as 192.0.2.1:5683 or [2001:db8::1]:5683. The address
--- may have any spelling (RFC 4291 section 2.2), but no zone.
+-- Returns the address and the port that a text names, as 192.0.2.1:5683 or [2001:db8::1]:5683. The
+-- address may have any spelling (RFC 4291 section 2.2), but no zone.
 abbrev pub address_of : List ℕ → Option Peer
 address_of [] = None
 address_of (c ∷ rest) = if c == 91 then v6_address rest else v4_address (c ∷ rest)

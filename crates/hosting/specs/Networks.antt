@@ -11,12 +11,13 @@ use Rattle.line_model.specs.Numbers.{number_of}
 use Rattle.hosting.specs.declared.prefixes.Network.{Network}
 use Rattle.hosting.specs.Widths.{width_of}
 
--- two numbers with this many bits agree in this many of the first
+-- Returns whether two numbers of `width` bits agree in the first `bits`.
 abbrev pub agree : ℕ → ℕ → ℕ → ℕ → Bool
 agree width bits a b =
     if bits == 0 then true else a / 2 ^ (width - bits) == b / 2 ^ (width - bits)
 
--- the numbers that the octets of an IPv4 address, and those of each half of an IPv6 address, form
+-- Return the numbers that the octets of an IPv4 address, and those of each half of an IPv6 address,
+-- form.
 abbrev pub v4_number : List ℕ → ℕ
 v4_number octets =
     slice_index octets 0 * 2 ^ 24 + slice_index octets 1 * 2 ^ 16
@@ -27,7 +28,7 @@ half at groups =
     slice_index groups at * 2 ^ 48 + slice_index groups (at + 1) * 2 ^ 32
     + (slice_index groups (at + 2) * 2 ^ 16 + slice_index groups (at + 3))
 
--- an address is in a network, which has the same family
+-- Returns whether an address is in a network, which has the same family.
 abbrev pub holds : Host → ℕ → Host → Bool
 holds (host.V4 a) bits (host.V4 b) = agree 32 bits (v4_number a) (v4_number b)
 holds (host.V6 a) bits (host.V6 b) =
@@ -48,18 +49,18 @@ named (Some v4) _ = Some (host.V4 v4)
 named None (Some v6) = Some (host.V6 v6)
 named None None = None
 
--- the address that a text names, in any spelling (RFC 4291 section 2.2)
+-- Returns the address that a text names, in any spelling (RFC 4291 section 2.2).
 unfoldable pub host_of : List ℕ → Option Host
 host_of text = named (whole_value (read_ipv4 text)) (whole_value (read_ipv6 text))
 
 abbrev pub with_bits : Host → Option ℕ → Option Network
 with_bits host bits = option_map (λ n. record { host = host; bits = n }) bits
 
--- an address alone names the network that has only this address
+-- Returns the network that has only this address.
 abbrev pub alone : Host → Option Network
 alone host = Some (record { host = host; bits = width_of host })
 
--- an address, a slash, and the number of bits that count
+-- Returns the network of an address, a slash, and the number of bits that count.
 abbrev pub slashed : List ℕ → ℕ → Option Network
 slashed text at = option_and_then
     (λ host. with_bits host (number_of (width_of host) (drop (at + 1) text)))

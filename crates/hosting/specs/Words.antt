@@ -23,30 +23,30 @@ use Rattle.hosting.specs.declared.wanted.Wanted.TheVariants as wanted
 use Rattle.hosting.specs.declared.wanted.HostFault.{HostFault}
 use Rattle.hosting.specs.declared.wanted.HostFault.TheVariants as fault
 
--- the most ends of a server, over all its addresses
+-- Returns the most ends of a server, over all its addresses.
 abbrev pub max_ends : ℕ
 max_ends = 16
 
--- the most receives of a worker
+-- Returns the most receives of a worker.
 abbrev pub max_turns : ℕ
 max_turns = 1_000_000_000_000
 
--- the greatest number above which a run can be made to begin
+-- Returns the greatest number above which a run can be made to begin.
 abbrev pub max_begin : ℕ
 max_begin = 100_000_000_000_000
 
--- the greatest share of a source, in writes, and the default
+-- Return the greatest share of a source, in writes, and the default.
 abbrev pub max_share : ℕ
 max_share = 4096
 
 abbrev pub default_share : ℕ
 default_share = 1024
 
--- the greatest share of a source, in lookups; by default there is none
+-- Returns the greatest share of a source, in lookups. By default there is none.
 abbrev pub max_lookups : ℕ
 max_lookups = 65_535
 
--- the greatest limit of query options of a lookup, and the default
+-- Return the greatest limit of query options of a lookup, and the default.
 abbrev pub max_criteria : ℕ
 max_criteria = 768
 
@@ -55,15 +55,15 @@ default_criteria = 16
 
 -- ---- options
 
--- the number is from 1 on
+-- Returns the number, if it is at least 1.
 abbrev pub from_one : ℕ → Option ℕ
 from_one n = if nat_le 1 n then Some n else None
 
--- the number from 1 to a limit that a text prints in decimal, without a leading zero
+-- Returns the number from 1 to a limit that a text prints in decimal, without a leading zero.
 abbrev pub count_of : ℕ → List ℕ → Option ℕ
 count_of limit text = option_and_then from_one (number_of limit text)
 
--- the option of the guard with this name
+-- Returns the option of the guard with this name.
 abbrev pub guard_name_of : List ℕ → Option OptionName
 guard_name_of word =
     if bytes_eq word (codes "--allow") then Some option_name.Allow
@@ -72,14 +72,14 @@ guard_name_of word =
     else (if bytes_eq word (codes "--criteria") then Some option_name.Criteria
     else (if bytes_eq word (codes "--lookups") then Some option_name.Lookups else None))))
 
--- the option of connections with this name
+-- Returns the option of connections with this name.
 abbrev pub tcp_name_of : List ℕ → Option OptionName
 tcp_name_of word =
     if bytes_eq word (codes "--tcp") then Some option_name.Tcp
     else (if bytes_eq word (codes "--connections") then Some option_name.Connections
     else guard_name_of word)
 
--- the option with this name
+-- Returns the option with this name.
 abbrev pub name_of : List ℕ → Option OptionName
 name_of word =
     if bytes_eq word (codes "--listen") then Some option_name.Listen
@@ -88,8 +88,8 @@ name_of word =
     else (if bytes_eq word (codes "--begin") then Some option_name.Begin
     else tcp_name_of word)))
 
--- An option with its value: an address with a port from 1 on, a network, or a number from 1 to its
--- limit. Numbers of the guard may be 0.
+-- Returns an option with its value: an address with a port from 1 on, a network, or a number from 1
+-- to its limit. Numbers of the guard may be 0.
 abbrev pub option_of : OptionName → List ℕ → Option HostOption
 option_of option_name.Listen value = option_map (λ p. host_option.Listen p) (address_of value)
 option_of option_name.Workers value =
@@ -111,7 +111,7 @@ option_of option_name.Lookups value =
     option_map (λ n. host_option.Lookups n) (number_of max_lookups value)
 option_of option_name.Quiet value = None
 
--- the parts of a text before and after its first `=`
+-- Returns the parts of a text before and after its first `=`.
 abbrev pub cut : List ℕ → Option (List ℕ × List ℕ)
 cut text = option_map (λ at. (take at text, drop (at + 1) text))
     (position (λ octet. octet == 61) text)
@@ -120,7 +120,7 @@ abbrev pub named : Option OptionName → List ℕ → Option HostOption
 named None value = None
 named (Some name) value = option_of name value
 
--- the option of a single argument: one without a value, or a name joined to its value
+-- Returns the option of a single argument: one without a value, or a name joined to its value.
 abbrev pub of_parts : Option (List ℕ × List ℕ) → Option HostOption
 of_parts None = None
 of_parts (Some parts) = named (name_of parts.0) parts.1
@@ -129,13 +129,13 @@ abbrev pub joined : List ℕ → Option HostOption
 joined word =
     if bytes_eq word (codes "--quiet") then Some host_option.Quiet else of_parts (cut word)
 
--- an option before others, if each is an option
+-- Returns an option before others, if each is an option.
 abbrev pub before : Option HostOption → Option (List HostOption) → Option (List HostOption)
 before None options = None
 before (Some option) options = option_map (λ behind. option ∷ behind) options
 
--- The options that arguments give, in order. The value of each is the argument after its name, or
--- is joined to the name.
+-- Returns the options that arguments give, in order. The value of each is the argument after its
+-- name, or is joined to the name.
 unfoldable pub options_of : List (List ℕ) → Option (List HostOption)
 options_of [] = Some []
 options_of (word ∷ []) = before (if is_some (name_of word) then None else joined word) (Some [])
@@ -143,14 +143,14 @@ options_of (word ∷ value ∷ words) =
     if is_some (name_of word) then before (named (name_of word) value) (options_of words)
     else before (joined word) (options_of (value ∷ words))
 
--- the option at the start of the arguments, and the arguments after it
+-- States which option is at the start of the arguments, and which arguments are after it.
 abbrev pub Begins : List (List ℕ) → Option (HostOption × List (List ℕ)) → Type 0
 Begins words None = options_of words ≡ None
 Begins words (Some next) = options_of words ≡ before (Some next.0) (options_of next.1)
 
 -- ---- what they ask for
 
--- nothing is asked for
+-- Returns what arguments ask for if there are none.
 abbrev pub nothing_asked : HostAsked
 nothing_asked = record {
   listen = [];
@@ -167,12 +167,12 @@ nothing_asked = record {
   quiet = false;
 }
 
--- a number that is given at most once
+-- Returns a number that is given at most once.
 abbrev pub once : Option ℕ → ℕ → Option ℕ
 once None n = Some n
 once (Some earlier) n = None
 
--- adds an option: any number of addresses and networks, and each number once
+-- Adds an option: any number of addresses and networks, and each number once.
 abbrev pub asked_with : HostAsked → HostOption → Option HostAsked
 asked_with asked (host_option.Listen address) =
     Some (record asked { listen = asked.listen ++ address ∷ [] })
@@ -199,33 +199,33 @@ asked_with asked (host_option.Lookups n) =
 asked_with asked host_option.Quiet =
     if asked.quiet then None else Some (record asked { quiet = true })
 
--- adds all options, in order
+-- Adds all options, in order.
 unfoldable pub asked_from : Option HostAsked → List HostOption → Option HostAsked
 asked_from None options = None
 asked_from (Some asked) [] = Some asked
 asked_from (Some asked) (option ∷ options) = asked_from (asked_with asked option) options
 
--- the same, if the arguments give options
+-- Returns the same, if the arguments give options.
 abbrev pub asked_by : HostAsked → List (List ℕ) → Option HostAsked
 asked_by asked words = option_and_then (asked_from (Some asked)) (options_of words)
 
--- The number of connections served at a time. If an address for connections is given, the default
--- is four. Otherwise there are none, and the number must not be given.
+-- Returns the number of connections served at a time. If an address for connections is given, the
+-- default is four. Otherwise there are none, and the number must not be given.
 abbrev pub connections_of : HostAsked → Option ℕ
 connections_of asked =
     if nat_le 1 (length asked.tcp) then Some (unwrap_or asked.connections 4)
     else (if is_some asked.connections then None else Some 0)
 
--- the most workers that each address may have, given the numbers of connections and of addresses,
--- and the default number: four, or as many as it may have
+-- Return the most workers that each address may have, given the numbers of connections and of
+-- addresses, and the default number: four, or as many as it may have.
 abbrev pub most_each : ℕ → ℕ → ℕ
 most_each connections addresses = (max_ends - connections) / addresses
 
 abbrev pub default_each : ℕ → ℕ → ℕ
 default_each connections addresses = min 4 (most_each connections addresses)
 
--- the plan with these numbers of connections and of workers for each address, if there is an
--- address and there are not too many ends
+-- Returns the plan with these numbers of connections and of workers for each address, if there is
+-- an address and there are not too many ends.
 abbrev pub plan_with : HostAsked → ℕ → ℕ → Option HostPlan
 plan_with asked connections workers =
     if nat_le 1 (length asked.listen)
@@ -245,7 +245,8 @@ plan_with asked connections workers =
       quiet = asked.quiet;
     }) else None
 
--- where the program listens by default: at the port of RFC 7252 section 12.6 of loopback
+-- Returns the addresses at which the program listens by default: those of loopback, at the port of
+-- RFC 7252 section 12.6.
 abbrev pub default_listen : List Peer
 default_listen =
     record { host = host.V6 (0 ∷ 0 ∷ 0 ∷ 0 ∷ 0 ∷ 0 ∷ 0 ∷ 1 ∷ []); port = 5683 }
@@ -261,12 +262,12 @@ plan_of asked = option_and_then
     (unwrap_or asked.workers (default_each connections (length asked.listen))))
     (connections_of asked)
 
--- the plan that the arguments make, if the program accepts them
+-- Returns the plan that the arguments make, if the program accepts them.
 abbrev pub plan_said : List (List ℕ) → Option HostPlan
 plan_said words =
     option_and_then (λ asked. plan_of (settled asked)) (asked_by nothing_asked words)
 
--- a question about the program, which is a single argument
+-- Returns the question about the program that a single argument asks.
 abbrev pub question_in : List ℕ → Option Wanted
 question_in word =
     if bytes_eq word (codes "--help") || bytes_eq word (codes "-h") then Some wanted.Help
@@ -282,11 +283,11 @@ abbrev pub unless_asked : Option Wanted → Option HostPlan → Option Wanted
 unless_asked (Some question) plan = Some question
 unless_asked None plan = option_map (λ p. wanted.Serve p) plan
 
--- what the arguments want, if the program accepts them
+-- Returns what the arguments want, if the program accepts them.
 abbrev pub wanted_of : List (List ℕ) → Option Wanted
 wanted_of words = unless_asked (question_of words) (plan_said words)
 
--- the result of reading the arguments, unless memory ran out
+-- States that this is the result of reading the arguments, unless memory ran out.
 abbrev pub IsRead : {A : Type 0} → Option A → Result A HostFault → Type 0
 IsRead said (Ok read) = said ≡ Some read
 IsRead said (Err fault.Usage) = said ≡ None
@@ -320,7 +321,7 @@ pub record IsAsked (asked : HostAsked) : Type 0 where
   pub criteria : IfSome asked.criteria (λ n. n ≤ max_criteria)
   pub lookups : IfSome asked.lookups (λ n. n ≤ max_lookups)
 
--- the numbers of a plan are within their limits
+-- States that the numbers of a plan are within their limits.
 pub record IsPlan (plan : HostPlan) : Type 0 where
   pub some_addresses : 1 ≤ length plan.listen
   pub some_workers : 1 ≤ plan.workers
