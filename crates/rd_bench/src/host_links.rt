@@ -151,6 +151,7 @@ fn guarded<'a, R>(
 }
 
 /// Measures lookups by a link that is guarded and counted as these arguments of `rd_host` ask for.
+/// If they ask for neither, measures them by the link alone, as `rd_host` then serves.
 fn measure_guarded<R: Wait>(
     rt: &HostRuntime,
     ends: &R,
@@ -158,12 +159,16 @@ fn measure_guarded<R: Wait>(
     name: &str,
 ) -> Result<(), Trouble> {
     let shared = shared_of(rt, words)?;
+    if shared.guard.is_open() && shared.counts.is_none() {
+        let mut link = Asking::new(rt.alloc())?;
+        return print_looks(rt, name, &mut link);
+    }
     let mut link = guarded(rt, ends, &shared)?;
     print_looks(rt, name, &mut link)
 }
 
-/// Measures lookups by a link alone, by one whose guard and counters are off, and by one with those
-/// of `rd_host` by default.
+/// Measures lookups by a link alone, by the link of `rd_host` with guard and counters off, and by its
+/// link by default.
 ///
 /// # Errors
 ///

@@ -574,6 +574,24 @@ fn serve_jointly_above<
     Ok(serve_posts(handles, hall, posts, &OpenGate, plan.turns, &mut out))
 }
 
+/// Serves these ends over UDP alone, as [`serve_above`] does.
+///
+/// # Errors
+///
+/// `Starved` if memory runs out before the ends are served.
+fn serve_ends<R: Threads + Wait + Sync + AllocGlobal, L: Link + Send, C: Clock + Send>(
+    rt: &HostRuntime,
+    handles: &R,
+    mut ends: Vec<End<L, C>>,
+    plan: &HostPlan,
+    first: u64,
+) -> Result<ServeStatus, Starved>
+    requires ends { (1 ≤ vec_len ends) × (vec_len ends ≤ 16) }
+    requires turns { plan.now.turns ≤ 10 ^ 12 }
+{
+    serve_above(rt, handles, &mut ends, plan, first)
+}
+
 /// Makes a hall for the workers of these ends and stands, begins its run above `first`, and serves.
 ///
 /// Prints the line of its start on standard error, and serves even if that cannot be written.
@@ -599,20 +617,45 @@ fn serve_all<
     requires turns { plan.now.turns ≤ 10 ^ 12 }
 {
     if stands.is_empty() {
-        let mut ends = ends;
-        return serve_above(rt, handles, &mut ends, plan, first);
+        return serve_ends(rt, handles, ends, plan, first);
     }
     let mut posts = joint_posts(rt.alloc(), ends, stands)?;
     serve_jointly_above(rt, handles, &mut posts, plan, first)
 }
 
-/// Serves as [`serve_all`] does, with a guard and a counter over each link, unless the plan asks
-/// for neither.
+/// Serves as [`serve_all`] does, with nothing over the links.
 ///
 /// # Errors
 ///
 /// `Starved` if memory runs out before the workers are served.
-fn serve<
+fn serve_plain<
+    R: Threads + Wait + Sync + AllocGlobal,
+    L: Link + Send + Drop,
+    E: Entrance + Send + Drop,
+    C: Clock + Send + Drop,
+    W: Drop,
+>(
+    rt: &HostRuntime,
+    handles: &R,
+    contexts: Vec<Context<L, C, W>>,
+    stands: Vec<Stand<E, C>>,
+    plan: &HostPlan,
+    first: u64,
+) -> Result<ServeStatus, Starved>
+    requires some { 1 ≤ vec_len contexts }
+    requires few { vec_len contexts + vec_len stands ≤ 16 }
+    requires turns { plan.now.turns ≤ 10 ^ 12 }
+{
+    let ends = plain(rt.alloc(), contexts)?;
+    serve_all(rt, handles, ends, stands, plan, first)
+}
+
+/// Serves as [`serve_all`] does, with a guard and a counter over each link.
+///
+/// # Errors
+///
+/// `Starved` if memory runs out before the workers are served.
+fn serve_guarded<
     R: Threads + Wait + Sync + AllocGlobal,
     L: Link + Send + Drop,
     E: Entrance + Send + Drop,
@@ -631,10 +674,6 @@ fn serve<
     requires few { vec_len contexts + vec_len stands ≤ 16 }
     requires turns { plan.now.turns ≤ 10 ^ 12 }
 {
-    if shared.is_plain() {
-        let ends = plain(rt.alloc(), contexts)?;
-        return serve_all(rt, handles, ends, stands, plan, first);
-    }
     let ends = guarded(handles, rt.alloc(), shared, contexts)?;
     serve_all(rt, handles, ends, stands, plan, first)
 }
@@ -677,7 +716,12 @@ fn main(rt: HostRuntime) -> ExitCode {
         Err(ending) => return ending.exit(&rt),
     };
     let first = plan.begin.unwrap_or(shared.origin.begin());
-    match serve(&rt, &rt, &shared, contexts, stands, &plan, first) {
+    let served = if shared.is_plain() {
+        serve_plain(&rt, &rt, contexts, stands, &plan, first)
+    } else {
+        serve_guarded(&rt, &rt, &shared, contexts, stands, &plan, first)
+    };
+    match served {
         Ok(status) => Ending::of(status, &shared.crew).exit(&rt),
         Err(starved) => Ending::from(starved).exit(&rt),
     }

@@ -1,16 +1,14 @@
-use Rattle.std.proofs.Common.{Result, Ok, Err, IfOk, arith}
-use Rattle.rd_host.proofs.guarded_posts.Goals as goal
+use Rattle.std.proofs.Common.{arith}
+use Rattle.rd_host.proofs.serve_all.Goals as goal
 
-if_ok : {T E : Type 0} (P Q : T → Type 0) (r : Result T E) → ((x : T) → P x → Q x) → IfOk r P
-    → IfOk r Q
-if_ok P Q (Ok x) f p = f x p
-if_ok P Q (Err e) f p = tt
+-- There is room for the ends alone.
+pub serve_ends-requires-clause-ends : goal.serve_ends-requires-clause-ends
+serve_ends-requires-clause-ends g c κs within =
+    (c.requires.some, omega (arith, c.requires.few))
 
--- There are as many workers as ends and stands.
-pub returns : goal.returns
-returns g c =
-    if_ok _ _ c.joint_posts.result
-    (λ posts is. (
-      omega (arith, is, c.in_ok-ends.ensures, c.requires.some),
-      omega (arith, is, c.in_ok-ends.ensures, c.requires.few),
-    )) c.joint_posts.ensures
+-- There are as many workers as the slice has items.
+pub serve_jointly_above-requires-clause-posts : goal.serve_jointly_above-requires-clause-posts
+serve_jointly_above-requires-clause-posts g c κs within =
+    let all = c.deref_mut.ensures.len in
+    let made = c.in_ok-posts.ensures in
+    (omega (arith, all, made, c.requires.some), omega (arith, all, made, c.requires.few))
