@@ -3,13 +3,13 @@ ghost use Rattle.std.specs.Prelude.{◌≡◌, ◌<◌};
 
 use crate::draws::{next_drawn, sum_of, summed};
 use crate::versions::Versions;
-use crate::words::{numbers_of, put_numbers, put_sum};
+use crate::words::{put_numbers, put_sum};
 use attribute_index::{AttributeIndex, Carriers};
 use rd_base::{Pair, PairRef, Starved, Steps, Text};
 use std::alloc::Global;
 use std::marker::Brand;
 use std::sync::ledger::{Blank, Ledger};
-use vector_words::{NoAnswer, cut, number_of, text_of};
+use vector_words::Line;
 
 /// The versions of an index of attributes.
 pub(crate) type Indexes = Versions<AttributeIndex>;
@@ -43,53 +43,57 @@ fn carriers_of(
     told::<Brand>(Blank::new(1), alloc, carriers)
 }
 
-/// Returns the attribute of a text: its name and its value, with `=` between them.
-fn pair_of(alloc: Global, said: &str) -> Result<Pair, NoAnswer> {
-    let Some((name, value)) = said.split_once('=') else {
-        return Err(NoAnswer::Form);
-    };
+/// Reads an attribute, or a name and a pattern: `=` stands between the two.
+fn pair_of(line: &mut Line<'_>) -> Result<Pair, Starved> {
+    let said = line.said;
+    let (name, value) = said.split_once('=').unwrap_or((said, ""));
+    if name.len() == said.len() {
+        line.refuse();
+    }
+    let value = Text::of(line.text(value));
     Ok(Pair {
-        name: Text::copy_of(alloc, name)?,
-        value: Text::of(text_of(alloc, value)?),
+        name: Text::copy_of(line.alloc, name)?,
+        value,
     })
 }
 
-/// Returns the numbers of the carriers of the name and the pattern of a text, with `=` between
-/// them.
-fn asked(index: &AttributeIndex, alloc: Global, said: &str) -> Result<Vec<u64>, NoAnswer> {
-    let Pair { name, value } = pair_of(alloc, said)?;
-    Ok(carriers_of(index, alloc, name.as_str(), value.as_str())?)
+/// Writes the numbers of the carriers of the name and the pattern that a line gives, or how many
+/// there are and their checksum.
+fn put_carriers(index: &AttributeIndex, line: &mut Line<'_>, verb: &str) -> Result<(), Starved> {
+    let asked = pair_of(line)?;
+    let numbers = carriers_of(index, line.alloc, asked.name.as_str(), asked.value.as_str())?;
+    if verb == "sum" {
+        put_sum(line, numbers.len() as u64, sum_of(numbers.as_slice()));
+    } else {
+        put_numbers(line, numbers.as_slice());
+    }
+    Ok(())
+}
+
+/// Writes which records carry a name.
+fn put_named(index: &AttributeIndex, line: &mut Line<'_>, name: &str) -> Result<(), Starved> {
+    let numbers = carriers_of(index, line.alloc, name, "*")?;
+    put_numbers(line, numbers.as_slice());
+    Ok(())
 }
 
 /// Puts or takes an attribute of a record, and writes which records carried its name before and
 /// afterwards.
-fn change(
-    index: &mut AttributeIndex,
-    alloc: Global,
-    page: &mut String,
-    verb: &str,
-    said: &str,
-) -> Result<(), NoAnswer> {
-    let (number, pair) = cut(said);
-    let number = number_of(number, u64::MAX)?;
-    let pair = pair_of(alloc, pair)?;
+fn change(index: &mut AttributeIndex, line: &mut Line<'_>, verb: &str) -> Result<(), Starved> {
+    let number = line.number(u64::MAX);
+    let pair = pair_of(line)?;
+    let name = pair.name.as_str();
     let attribute = PairRef {
-        name: pair.name.as_str(),
+        name,
         value: pair.value.as_str(),
     };
     let next = match verb {
-        "put" => index.put(alloc, &attribute, number)?,
-        _ => index.take(alloc, &attribute, number)?,
+        "put" => index.put(line.alloc, &attribute, number)?,
+        _ => index.take(line.alloc, &attribute, number)?,
     };
-    put_numbers(
-        page,
-        carriers_of(index, alloc, pair.name.as_str(), "*")?.as_slice(),
-    )?;
-    page.push_str(", then ")?;
-    put_numbers(
-        page,
-        carriers_of(&next, alloc, pair.name.as_str(), "*")?.as_slice(),
-    )?;
+    put_named(index, line, name)?;
+    line.put(", then ");
+    put_named(&next, line, name)?;
     *index = next;
     Ok(())
 }
@@ -113,37 +117,30 @@ fn change_drawn(index: &mut AttributeIndex, alloc: Global, drawn: u64) -> Result
     Ok(sum_of(numbers.as_slice()))
 }
 
-/// Puts and takes pseudo-random attributes. Returns the checksum of the results.
-fn change_many(index: &mut AttributeIndex, alloc: Global, said: &str) -> Result<u64, NoAnswer> {
-    let [count, seed] = numbers_of::<2>(said)?;
-    let mut drawn = seed;
+/// Puts and takes pseudo-random attributes, and writes the checksum of the results.
+fn change_many(index: &mut AttributeIndex, line: &mut Line<'_>) -> Result<(), Starved> {
+    let count = line.number(u64::MAX);
+    let mut drawn = line.number(u64::MAX);
     let mut sum = 0;
     for _ in 0..count {
         drawn = next_drawn(drawn);
-        sum = summed(sum, change_drawn(index, alloc, drawn)?);
+        sum = summed(sum, change_drawn(index, line.alloc, drawn)?);
     }
-    Ok(sum)
+    line.put_number(sum);
+    Ok(())
 }
 
-/// Does what a line says to an index, and writes the answer. Returns `Form` if the line is not a
-/// call on an index.
-pub(crate) fn answer(indexes: &mut Indexes, page: &mut String, said: &str) -> Result<(), NoAnswer> {
-    let (verb, rest) = cut(said);
-    if indexes.turn(verb, rest)? {
-        return Ok(());
-    }
-    let alloc = indexes.alloc;
-    let index = &mut indexes.now;
+/// Does what a line says to an index, and writes the answer.
+pub(crate) fn answer(indexes: &mut Indexes, line: &mut Line<'_>) -> Result<(), Starved> {
+    let verb = line.word();
     match verb {
-        "new" => *index = AttributeIndex::empty(alloc)?,
-        "put" | "take" => change(index, alloc, page, verb, rest)?,
-        "carriers" => put_numbers(page, asked(index, alloc, rest)?.as_slice())?,
-        "sum" => {
-            let numbers = asked(index, alloc, rest)?;
-            put_sum(page, numbers.len() as u64, sum_of(numbers.as_slice()))?;
+        "new" => {
+            indexes.now = AttributeIndex::empty(line.alloc)?;
+            Ok(())
         }
-        "random" => put_numbers(page, &[change_many(index, alloc, rest)?])?,
-        _ => return Err(NoAnswer::Form),
+        "put" | "take" => change(&mut indexes.now, line, verb),
+        "carriers" | "sum" => put_carriers(&indexes.now, line, verb),
+        "random" => change_many(&mut indexes.now, line),
+        _ => indexes.turn(line, verb),
     }
-    Ok(())
 }

@@ -3,13 +3,13 @@ ghost use Rattle.std.specs.Prelude.{◌≡◌, ◌<◌};
 
 use crate::draws::{next_drawn, sum_of, summed};
 use crate::versions::Versions;
-use crate::words::{numbers_of, put_numbers, put_sum};
+use crate::words::{put_numbers, put_sum};
 use lease_queue::{LeaseQueue, Swept};
 use rd_base::{Moment, Starved, Steps};
 use std::alloc::Global;
 use std::marker::Brand;
 use std::sync::ledger::{Blank, Ledger};
-use vector_words::{NoAnswer, cut, number_of};
+use vector_words::Line;
 
 /// The versions of a queue of leases.
 pub(crate) type Leases = Versions<LeaseQueue>;
@@ -44,50 +44,53 @@ fn swept<L: Ledger>(blank: Blank, queue: &LeaseQueue, now: Moment) -> Result<Swe
     queue.sweep(now, &mut steps)
 }
 
-/// Returns the numbers of the leases that have lapsed at the moment in a text.
-fn lapsed_at(queue: &LeaseQueue, alloc: Global, said: &str) -> Result<Vec<u64>, NoAnswer> {
-    let now = number_of(said, u64::MAX)?;
-    let numbers = lapsed_numbers::<Brand>(Blank::new(1), alloc, queue, Moment(now))?;
-    Ok(numbers)
+/// Writes the numbers of the leases that have lapsed at the moment that a line gives, or how many
+/// there are and their checksum.
+fn put_lapsed(queue: &LeaseQueue, line: &mut Line<'_>, verb: &str) -> Result<(), Starved> {
+    let now = Moment(line.number(u64::MAX));
+    let numbers = lapsed_numbers::<Brand>(Blank::new(1), line.alloc, queue, now)?;
+    if verb == "sum" {
+        put_sum(line, numbers.len() as u64, sum_of(numbers.as_slice()));
+    } else {
+        put_numbers(line, numbers.as_slice());
+    }
+    Ok(())
 }
 
-/// Sweeps at the moment in a text, and continues with what is left. Returns the numbers of the
-/// leases that had lapsed.
-fn sweep(queue: &mut LeaseQueue, said: &str) -> Result<Vec<u64>, NoAnswer> {
-    let now = number_of(said, u64::MAX)?;
+/// Sweeps at the moment that a line gives, and continues with what is left. Writes the numbers of
+/// the leases that had lapsed.
+fn sweep(queue: &mut LeaseQueue, line: &mut Line<'_>) -> Result<(), Starved> {
+    let now = Moment(line.number(u64::MAX));
     let Swept {
         queue: left,
         numbers,
-    } = swept::<Brand>(Blank::new(1), queue, Moment(now))?;
+    } = swept::<Brand>(Blank::new(1), queue, now)?;
     *queue = left;
-    Ok(numbers)
+    put_numbers(line, numbers.as_slice());
+    Ok(())
 }
 
 /// Puts or takes a lease, and writes how many leases there were before and afterwards.
-fn change(
-    queue: &mut LeaseQueue,
-    page: &mut String,
-    verb: &str,
-    said: &str,
-) -> Result<(), NoAnswer> {
-    let [lapse, number] = numbers_of::<2>(said)?;
+fn change(queue: &mut LeaseQueue, line: &mut Line<'_>, verb: &str) -> Result<(), Starved> {
+    let lapse = Moment(line.number(u64::MAX));
+    let number = line.number(u64::MAX);
     let next = match verb {
-        "put" => queue.put(Moment(lapse), number)?,
-        _ => queue.take(Moment(lapse), number)?,
+        "put" => queue.put(lapse, number)?,
+        _ => queue.take(lapse, number)?,
     };
-    let before = queue.count_lapsed(Moment(u64::MAX));
-    let after = next.count_lapsed(Moment(u64::MAX));
-    write!(page, "{before}, then {after}")?;
+    line.put_number(queue.count_lapsed(Moment(u64::MAX)));
+    line.put(", then ");
+    line.put_number(next.count_lapsed(Moment(u64::MAX)));
     *queue = next;
     Ok(())
 }
 
-/// Puts and takes pseudo-random leases. Returns the checksum of how many have lapsed at moment 32
+/// Puts and takes pseudo-random leases. Writes the checksum of how many have lapsed at moment 32
 /// after each change. One of three changes is a take. A lapse is less than 64, and a number less
 /// than 32.
-fn change_many(queue: &mut LeaseQueue, said: &str) -> Result<u64, NoAnswer> {
-    let [count, seed] = numbers_of::<2>(said)?;
-    let mut drawn = seed;
+fn change_many(queue: &mut LeaseQueue, line: &mut Line<'_>) -> Result<(), Starved> {
+    let count = line.number(u64::MAX);
+    let mut drawn = line.number(u64::MAX);
     let mut sum = 0;
     for _ in 0..count {
         drawn = next_drawn(drawn);
@@ -99,33 +102,27 @@ fn change_many(queue: &mut LeaseQueue, said: &str) -> Result<u64, NoAnswer> {
         };
         sum = summed(sum, queue.count_lapsed(Moment(32)));
     }
-    Ok(sum)
+    line.put_number(sum);
+    Ok(())
 }
 
-/// Does what a line says to a queue of leases, and writes the answer. Returns `Form` if the line is
-/// not a call on such a queue.
-pub(crate) fn answer(leases: &mut Leases, page: &mut String, said: &str) -> Result<(), NoAnswer> {
-    let (verb, rest) = cut(said);
-    if leases.turn(verb, rest)? {
-        return Ok(());
-    }
-    let alloc = leases.alloc;
-    let queue = &mut leases.now;
+/// Does what a line says to a queue of leases, and writes the answer.
+pub(crate) fn answer(leases: &mut Leases, line: &mut Line<'_>) -> Result<(), Starved> {
+    let verb = line.word();
     match verb {
-        "new" => *queue = LeaseQueue::empty(alloc)?,
-        "put" | "take" => change(queue, page, verb, rest)?,
-        "lapsed" => put_numbers(page, lapsed_at(queue, alloc, rest)?.as_slice())?,
-        "sum" => {
-            let numbers = lapsed_at(queue, alloc, rest)?;
-            put_sum(page, numbers.len() as u64, sum_of(numbers.as_slice()))?;
+        "new" => {
+            leases.now = LeaseQueue::empty(line.alloc)?;
+            Ok(())
         }
+        "put" | "take" => change(&mut leases.now, line, verb),
+        "lapsed" | "sum" => put_lapsed(&leases.now, line, verb),
         "count" => {
-            let now = number_of(rest, u64::MAX)?;
-            put_numbers(page, &[queue.count_lapsed(Moment(now))])?;
+            let now = Moment(line.number(u64::MAX));
+            line.put_number(leases.now.count_lapsed(now));
+            Ok(())
         }
-        "sweep" => put_numbers(page, sweep(queue, rest)?.as_slice())?,
-        "random" => put_numbers(page, &[change_many(queue, rest)?])?,
-        _ => return Err(NoAnswer::Form),
+        "sweep" => sweep(&mut leases.now, line),
+        "random" => change_many(&mut leases.now, line),
+        _ => leases.turn(line, verb),
     }
-    Ok(())
 }

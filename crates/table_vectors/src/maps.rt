@@ -1,16 +1,16 @@
 //! Scripts on maps.
 ghost use Rattle.std.specs.Prelude.{◌≡◌, ◌<◌};
 
-use crate::draws::{next_drawn, sum_of, summed};
+use crate::draws::{next_drawn, summed};
 use crate::values::{MapValue, Marked};
 use crate::versions::Versions;
-use crate::words::{numbers_of, put_sum};
+use crate::words::put_sum;
 use chunk_map::ChunkMap;
 use rd_base::{Starved, Steps};
 use std::alloc::Global;
 use std::marker::Brand;
 use std::sync::ledger::{Blank, Ledger};
-use vector_words::{NoAnswer, cut, number_of};
+use vector_words::Line;
 
 /// A map whose values are of one kind.
 #[derive(Drop)]
@@ -22,69 +22,64 @@ pub(crate) struct Maps<V: MapValue> {
 }
 
 /// Writes the value at a key, and the number of pairs.
-fn put_value<V: MapValue>(
-    page: &mut String,
-    map: &ChunkMap<u64, V>,
-    key: u64,
-) -> Result<(), Starved> {
-    let count = map.len();
+fn put_value<V: MapValue>(line: &mut Line<'_>, map: &ChunkMap<u64, V>, key: u64) {
     match map.get(&key) {
-        Some(value) => {
-            let number = value.number();
-            write!(page, "{number} of {count}")?;
-        }
-        None => write!(page, "none of {count}")?,
+        Some(value) => line.put_number(value.number()),
+        None => line.put("none"),
     }
-    Ok(())
+    line.put(" of ");
+    line.put_number(map.len());
 }
 
-/// Returns the keys and values of the pairs from this key on, one after another.
-fn pairs_from<L: Ledger, V: MapValue>(
+/// Writes a pair that comes after this number of others.
+fn put_pair(line: &mut Line<'_>, count: u64, key: u64, value: u64) {
+    if count > 0 {
+        line.put(" ");
+    }
+    line.put_number(key);
+    line.put("=");
+    line.put_number(value);
+}
+
+/// Writes the pairs from the key on that a line gives, or how many there are and their checksum.
+fn put_pairs<L: Ledger, V: MapValue>(
     blank: Blank,
-    alloc: Global,
+    line: &mut Line<'_>,
     map: &ChunkMap<u64, V>,
-    from: u64,
-) -> Result<Vec<u64>, Starved>
+    verb: &str,
+)
     requires name { blank.name ≡ L.name }
     requires parts { blank.parts ≡ L.parts }
     requires some { 0 < L.parts }
 {
+    let from = line.number(u64::MAX);
     let mut steps = Steps::<L>::new(blank);
     let mut left = map.range(&from);
-    let mut pairs = Vec::new(alloc);
+    let mut count = 0;
+    let mut sum = 0;
     while let Some((key, value)) = left.step(&mut steps) {
-        pairs.push(*key)?;
-        pairs.push(value.number())?;
-    }
-    Ok(pairs)
-}
-
-/// Writes pairs on an empty page, or that there are none.
-fn put_pairs(page: &mut String, pairs: &[u64]) -> Result<(), Starved> {
-    for pair in pairs.chunks(2) {
-        if let [key, value] = pair {
-            let key = *key;
-            let value = *value;
-            if !page.is_empty() {
-                page.push_str(" ")?;
-            }
-            write!(page, "{key}={value}")?;
+        let value = value.number();
+        if verb == "range" {
+            put_pair(line, count, *key, value);
         }
+        count = u64::wrapping_add(count, 1);
+        sum = summed(summed(sum, *key), value);
     }
-    if page.is_empty() {
-        page.push_str("none")?;
+    if verb == "sum" {
+        put_sum(line, count, sum);
+    } else if count == 0 {
+        line.put("none");
     }
-    Ok(())
 }
 
 /// Writes whether there are at most `most` chunks, and their number if there are more.
-fn put_bound(page: &mut String, chunks: u64, most: u64) -> Result<(), Starved> {
+fn put_bound(line: &mut Line<'_>, chunks: u64, most: u64) {
     if chunks > most {
-        write!(page, "no, {chunks}")?;
-        return Ok(());
+        line.put("no, ");
+        line.put_number(chunks);
+    } else {
+        line.put("yes");
     }
-    page.push_str("yes")?;
-    Ok(())
 }
 
 /// The keys of a walk: a first key, and then each key plus the step, modulo a number.
@@ -100,18 +95,17 @@ struct Walk {
     count: u64,
 }
 
-/// Returns the walk of four numbers.
-fn walk_of(said: &str) -> Result<Walk, NoAnswer> {
-    let [first, step, modulus, count] = numbers_of::<4>(said)?;
-    Ok(Walk {
-        first,
-        step,
-        modulus,
-        count,
-    })
-}
-
 impl Walk {
+    /// Reads a walk: four numbers.
+    fn of(line: &mut Line<'_>) -> Walk {
+        Walk {
+            first: line.number(u64::MAX),
+            step: line.number(u64::MAX),
+            modulus: line.number(u64::MAX),
+            count: line.number(u64::MAX),
+        }
+    }
+
     /// Returns the key with this index, from 0.
     fn key(&self, number: u64) -> u64 {
         let key = u64::wrapping_add(self.first, u64::wrapping_mul(self.step, number));
@@ -137,9 +131,14 @@ fn take_walk<V: MapValue>(map: &mut ChunkMap<u64, V>, walk: Walk) -> Result<(), 
 
 /// Puts runs of ascending keys, each run right before the last one. The value of a key is the
 /// number of its put, from 0.
-fn put_runs<V: MapValue>(map: &mut ChunkMap<u64, V>, kind: &V, said: &str) -> Result<(), NoAnswer> {
-    let [first, length, count] = numbers_of::<3>(said)?;
-    for number in 0..count {
+fn put_runs<V: MapValue>(
+    map: &mut ChunkMap<u64, V>,
+    kind: &V,
+    line: &mut Line<'_>,
+) -> Result<(), Starved> {
+    let first = line.number(u64::MAX);
+    let length = line.number(u64::MAX);
+    for number in 0..line.number(u64::MAX) {
         let place = number.checked_rem(length).unwrap_or(0);
         let back = u64::wrapping_sub(number, place);
         let key = u64::wrapping_sub(u64::wrapping_add(first, place), back);
@@ -148,8 +147,9 @@ fn put_runs<V: MapValue>(map: &mut ChunkMap<u64, V>, kind: &V, said: &str) -> Re
     Ok(())
 }
 
-/// Puts or takes a key. Returns a checksum extended by two numbers. The first is one more than the
-/// value then at the key, or 0 if there is none; the second is the number of pairs.
+/// Puts or takes the key that a pseudo-random number gives. Returns a checksum extended by two
+/// numbers. The first is one more than the value then at the key, or 0 if there is none; the second
+/// is the number of pairs.
 fn change_drawn<V: MapValue>(
     map: &mut ChunkMap<u64, V>,
     key: u64,
@@ -167,16 +167,17 @@ fn change_drawn<V: MapValue>(
     Ok(summed(summed(sum, there), map.len()))
 }
 
-/// Puts and takes pseudo-random keys. Returns the checksum of what was at the key after each
-/// change. One of eight changes is a take in the first half, and seven in the second. A value is
-/// the number of its change.
+/// Puts and takes pseudo-random keys. Writes the checksum of what was at the key after each change.
+/// One of eight changes is a take in the first half, and seven in the second. A value is the number
+/// of its change.
 fn change_many<V: MapValue>(
     map: &mut ChunkMap<u64, V>,
     kind: &V,
-    said: &str,
-) -> Result<u64, NoAnswer> {
-    let [count, keys, seed] = numbers_of::<3>(said)?;
-    let mut drawn = seed;
+    line: &mut Line<'_>,
+) -> Result<(), Starved> {
+    let count = line.number(u64::MAX);
+    let keys = line.number(u64::MAX);
+    let mut drawn = line.number(u64::MAX);
     let mut sum = 0;
     for change in 0..count {
         drawn = next_drawn(drawn);
@@ -188,7 +189,8 @@ fn change_many<V: MapValue>(
         }
         sum = change_drawn(map, key, value, sum)?;
     }
-    Ok(sum)
+    put_sum(line, map.len(), sum);
+    Ok(())
 }
 
 impl<V: MapValue> Maps<V> {
@@ -206,100 +208,71 @@ impl<V: MapValue> Maps<V> {
         &self.versions.now
     }
 
-    /// Continues with another version, and writes the value at a key before and afterwards.
-    fn go_on(
-        &mut self,
-        page: &mut String,
-        key: u64,
-        next: ChunkMap<u64, V>,
-    ) -> Result<(), NoAnswer> {
-        put_value(page, &self.versions.now, key)?;
-        page.push_str(", then ")?;
-        put_value(page, &next, key)?;
-        self.versions.now = next;
-        Ok(())
-    }
-
-    /// Puts a key and a value.
-    fn put(&mut self, page: &mut String, said: &str) -> Result<(), NoAnswer> {
-        let [key, number] = numbers_of::<2>(said)?;
-        let value = self.kind.of_kind(number)?;
-        let next = self.versions.now.put(key, value)?;
-        self.go_on(page, key, next)
-    }
-
-    /// Takes a key.
-    fn take(&mut self, page: &mut String, said: &str) -> Result<(), NoAnswer> {
-        let key = number_of(said, u64::MAX)?;
-        let next = self.versions.now.take(&key)?;
-        self.go_on(page, key, next)
-    }
-
-    /// Returns the keys and values of the pairs from a key on.
-    fn pairs(&self, said: &str) -> Result<Vec<u64>, NoAnswer> {
-        let from = number_of(said, u64::MAX)?;
-        let alloc = self.versions.alloc;
-        let pairs = pairs_from::<Brand, V>(Blank::new(1), alloc, &self.versions.now, from)?;
-        Ok(pairs)
-    }
-
-    /// Writes what a call reads from the map. Returns `Form` if there is no such call.
-    fn read(&self, page: &mut String, verb: &str, said: &str) -> Result<(), NoAnswer> {
-        match verb {
-            "get" => {
-                let key = number_of(said, u64::MAX)?;
-                put_value(page, &self.versions.now, key)?;
-            }
-            "range" => put_pairs(page, self.pairs(said)?.as_slice())?,
-            "sum" => {
-                let pairs = self.pairs(said)?;
-                put_sum(page, pairs.len() as u64 / 2, sum_of(pairs.as_slice()))?;
-            }
-            "chunks" => {
-                let most = number_of(said, u64::MAX)?;
-                put_bound(page, self.versions.now.count_chunks() as u64, most)?;
-            }
-            _ => return Err(NoAnswer::Form),
-        }
-        Ok(())
-    }
-
-    /// Changes the map. Returns whether the call is one that changes it.
-    fn change(&mut self, page: &mut String, verb: &str, said: &str) -> Result<bool, NoAnswer> {
+    /// Puts a key and a value or takes a key, and writes the value at the key before and
+    /// afterwards.
+    fn change(&mut self, line: &mut Line<'_>, verb: &str) -> Result<(), Starved> {
+        let key = line.number(u64::MAX);
         let map = &mut self.versions.now;
-        match verb {
-            "new" => *map = ChunkMap::empty(self.versions.alloc)?,
-            "puts" => put_walk(map, &self.kind, walk_of(said)?)?,
-            "takes" => take_walk(map, walk_of(said)?)?,
-            "runs" => put_runs(map, &self.kind, said)?,
-            "random" => {
-                let sum = change_many(map, &self.kind, said)?;
-                put_sum(page, map.len(), sum)?;
-                return Ok(true);
-            }
-            _ => return Ok(false),
-        }
-        let count = map.len();
-        write!(page, "length {count}")?;
-        Ok(true)
+        let next = match verb {
+            "put" => map.put(key, self.kind.of_kind(line.number(u64::MAX))?)?,
+            _ => map.take(&key)?,
+        };
+        put_value(line, map, key);
+        line.put(", then ");
+        put_value(line, &next, key);
+        *map = next;
+        Ok(())
     }
 
-    /// Does what a line says, and writes the answer. Returns `Form` if the line is not a call on a
-    /// map.
-    pub(crate) fn answer(&mut self, page: &mut String, said: &str) -> Result<(), NoAnswer> {
-        let (verb, rest) = cut(said);
+    /// Changes the map by many calls, and writes its length.
+    fn change_much(&mut self, line: &mut Line<'_>, verb: &str) -> Result<(), Starved> {
+        let map = &mut self.versions.now;
+        let done = match verb {
+            "puts" => put_walk(map, &self.kind, Walk::of(line)),
+            "takes" => take_walk(map, Walk::of(line)),
+            _ => put_runs(map, &self.kind, line),
+        };
+        done?;
+        line.put("length ");
+        line.put_number(map.len());
+        Ok(())
+    }
+
+    /// Writes what a call reads from the map.
+    fn read(&self, line: &mut Line<'_>, verb: &str) {
+        let map = &self.versions.now;
         match verb {
-            "put" => return self.put(page, rest),
-            "take" => return self.take(page, rest),
-            _ => {}
+            "range" | "sum" => put_pairs::<Brand, V>(Blank::new(1), line, map, verb),
+            "get" => {
+                let key = line.number(u64::MAX);
+                put_value(line, map, key);
+            }
+            _ => {
+                let most = line.number(u64::MAX);
+                put_bound(line, map.count_chunks() as u64, most);
+            }
         }
-        if self.versions.turn(verb, rest)? {
-            return Ok(());
+    }
+
+    /// Does what a line says, and writes the answer.
+    pub(crate) fn answer(&mut self, line: &mut Line<'_>) -> Result<(), Starved> {
+        let verb = line.word();
+        match verb {
+            "put" | "take" => self.change(line, verb),
+            "puts" | "takes" | "runs" => self.change_much(line, verb),
+            "random" => change_many(&mut self.versions.now, &self.kind, line),
+            "get" | "range" | "sum" | "chunks" => {
+                self.read(line, verb);
+                Ok(())
+            }
+            "new" => {
+                self.versions.now = ChunkMap::empty(line.alloc)?;
+                line.put("length ");
+                line.put_number(self.versions.now.len());
+                Ok(())
+            }
+            _ => self.versions.turn(line, verb),
         }
-        if self.change(page, verb, rest)? {
-            return Ok(());
-        }
-        self.read(page, verb, rest)
     }
 }
 
@@ -333,15 +306,14 @@ fn count_chunks<L: Ledger>(blank: Blank, map: &ChunkMap<u64, Marked>) -> Result<
     Ok(chunks)
 }
 
-/// Writes whether there are at most this number of chunks, and their number if there are more.
-/// Returns `Form` if the text is not a number.
+/// Writes whether there are at most as many chunks as a line says, and their number if there are
+/// more.
 pub(crate) fn bound_chunks(
-    page: &mut String,
+    line: &mut Line<'_>,
     map: &ChunkMap<u64, Marked>,
-    said: &str,
-) -> Result<(), NoAnswer> {
-    let most = number_of(said, u64::MAX)?;
+) -> Result<(), Starved> {
+    let most = line.number(u64::MAX);
     let chunks = count_chunks::<Brand>(Blank::new(1), map)?;
-    put_bound(page, chunks, most)?;
+    put_bound(line, chunks, most);
     Ok(())
 }

@@ -7,13 +7,13 @@ use crate::maps::{Maps, bound_chunks};
 use crate::values::Marked;
 use crate::versions::Versions;
 use crate::watches::Watches;
-use crate::{exchanges, index, leases, resends};
+use crate::{index, leases, resends};
 use attribute_index::AttributeIndex;
 use exchange_core::Resend;
 use lease_queue::LeaseQueue;
 use rd_base::{Moment, Starved};
 use std::alloc::Global;
-use vector_words::NoAnswer;
+use vector_words::{Line, NoAnswer};
 
 /// One table of each kind, as the lines before have left it.
 #[derive(Drop)]
@@ -56,6 +56,31 @@ impl Tables {
         })
     }
 
+    /// Writes the result of a call that needs no memory. Returns whether it is one of these.
+    fn answer_at_once(&mut self, line: &mut Line<'_>, call: &str) -> bool {
+        match call {
+            "token" => put_token(line),
+            "reply" => put_reply(line),
+            "resend" => resends::answer(&mut self.resend, line),
+            _ => return false,
+        }
+        true
+    }
+
+    /// Writes the result of another call on a table. Returns `None` if it is not one of these.
+    fn answer_in_memory(&mut self, line: &mut Line<'_>, call: &str) -> Option<Result<(), Starved>> {
+        Some(match call {
+            "map" => self.map.answer(line),
+            "shared_map" => self.shared_map.answer(line),
+            "chunks" => bound_chunks(line, self.shared_map.now()),
+            "leases" => leases::answer(&mut self.leases, line),
+            "index" => index::answer(&mut self.index, line),
+            "exchanges" => self.exchanges.answer(line),
+            "watches" => self.watches.answer(line),
+            _ => return None,
+        })
+    }
+
     /// Returns the result of a line whose first word is `call` and whose other words are `said`, or
     /// `done` if the call has no result. Returns `None` if the first word is not the name of a
     /// table.
@@ -65,23 +90,21 @@ impl Tables {
     /// `Form` if the arguments do not have the form of a call on that table; `Starved` if memory
     /// runs out.
     pub fn answer(&mut self, call: &str, said: &str) -> Result<Option<String>, NoAnswer> {
-        let mut page = String::new(self.alloc);
-        match call {
-            "map" => self.map.answer(&mut page, said)?,
-            "shared_map" => self.shared_map.answer(&mut page, said)?,
-            "chunks" => bound_chunks(&mut page, self.shared_map.now(), said)?,
-            "leases" => leases::answer(&mut self.leases, &mut page, said)?,
-            "index" => index::answer(&mut self.index, &mut page, said)?,
-            "exchanges" => self.exchanges.answer(&mut page, said)?,
-            "token" => put_token(&mut page, self.alloc, said)?,
-            "reply" => put_reply(&mut page, self.alloc, said)?,
-            "resend" => resends::answer(&mut self.resend, &mut page, said)?,
-            "watches" => self.watches.answer(&mut page, said)?,
-            _ => return Ok(None),
+        let mut line = Line::new(self.alloc, said);
+        match self.answer_in_memory(&mut line, call) {
+            Some(done) => line.done(done),
+            None => {
+                if !self.answer_at_once(&mut line, call) {
+                    return Ok(None);
+                }
+            }
         }
-        if page.is_empty() {
-            page.push_str("done")?;
+        if line.page.is_empty() {
+            line.put("done");
         }
-        Ok(Some(page))
+        match line.answer() {
+            Ok(answer) => Ok(Some(answer)),
+            Err(fault) => Err(fault),
+        }
     }
 }

@@ -7,7 +7,7 @@ use lease_queue::LeaseQueue;
 use rd_base::{Starved, Text};
 use std::alloc::Global;
 use std::collections::BTreeMap;
-use vector_words::NoAnswer;
+use vector_words::Line;
 
 /// A version of a table that never changes.
 pub(crate) trait Version: Drop {
@@ -36,8 +36,6 @@ impl Version for AttributeIndex {
 /// The present version of a table, and those that are stored.
 #[derive(Drop)]
 pub(crate) struct Versions<T: Version> {
-    /// The allocator of their memory.
-    pub(crate) alloc: Global,
     /// The present version.
     pub(crate) now: T,
     /// The others by their names.
@@ -48,40 +46,38 @@ impl<T: Version> Versions<T> {
     /// Creates a first version, with none stored.
     pub(crate) fn new(alloc: Global, now: T) -> Versions<T> {
         Versions {
-            alloc,
             now,
             kept: BTreeMap::new(alloc),
         }
     }
 
     /// Stores the present version under a name.
-    fn keep(&mut self, name: &str) -> Result<(), Starved> {
-        let name = Text::copy_of(self.alloc, name)?;
-        let version = self.now.shared(self.alloc)?;
+    fn keep(&mut self, alloc: Global, name: Text) -> Result<(), Starved> {
+        let version = self.now.shared(alloc)?;
         self.kept.insert(name, version)?;
         Ok(())
     }
 
-    /// Makes a stored version the present one. Returns `Form` if no version has this name.
-    fn go_back(&mut self, name: &str) -> Result<(), NoAnswer> {
-        let name = Text::copy_of(self.alloc, name)?;
-        let Some(version) = self.kept.get(&name) else {
-            return Err(NoAnswer::Form);
-        };
-        self.now = version.shared(self.alloc)?;
-        Ok(())
+    /// Makes the version of a name the present one, or else a shared copy of the present one.
+    /// Returns whether there is a version of this name.
+    fn go_back(&mut self, alloc: Global, name: &Text) -> Result<bool, Starved> {
+        let found = self.kept.get(name);
+        let is_found = found.is_some();
+        self.now = found.unwrap_or(&self.now).shared(alloc)?;
+        Ok(is_found)
     }
 
     /// Does what the verb says, if it is one that all tables have: `keep` and `back` with a name,
-    /// and `share`, which continues with a shared copy of the present version. Returns whether it
-    /// is one. Returns `Form` if no version has this name.
-    pub(crate) fn turn(&mut self, verb: &str, name: &str) -> Result<bool, NoAnswer> {
-        match verb {
-            "keep" => self.keep(name)?,
-            "back" => self.go_back(name)?,
-            "share" => self.now = self.now.shared(self.alloc)?,
-            _ => return Ok(false),
+    /// and `share`, which continues with a shared copy of the present version.
+    pub(crate) fn turn(&mut self, line: &mut Line<'_>, verb: &str) -> Result<(), Starved> {
+        let name = Text::copy_of(line.alloc, line.said)?;
+        if verb == "keep" {
+            return self.keep(line.alloc, name);
         }
-        Ok(true)
+        let is_found = self.go_back(line.alloc, &name)?;
+        if verb != "share" && !(verb == "back" && is_found) {
+            line.refuse();
+        }
+        Ok(())
     }
 }

@@ -1,13 +1,12 @@
 //! Scripts on tables of watched queries.
 
-use crate::words::put_numbers;
 use rd_base::{
-    Bytes, Criteria, Criterion, Items, Kind, LinkParts, LinksBuilder, Moment, Name, Pair, Pairs,
-    Query, Record, Starved, Text,
+    Criteria, Criterion, Items, Kind, LinkParts, LinksBuilder, Moment, Name, Pair, Pairs, Query,
+    Record, Starved, Text,
 };
 use std::alloc::Global;
 use std::sync::Arc;
-use vector_words::{NoAnswer, cut, number_of, octets_of, put_octets};
+use vector_words::{Line, NoAnswer, cut};
 use watch_table::{WatchFault, WatchTable};
 
 /// Returns one attribute with this name and value, or none if the value is empty.
@@ -65,74 +64,68 @@ fn some_record(alloc: Global, said: &str) -> Result<Option<Record>, Starved> {
 }
 
 /// Adds to a query what a word asks for: `page` or `count` with its number, or a criterion.
-fn ask(query: &mut Query, alloc: Global, word: &str) -> Result<(), NoAnswer> {
-    let Some((name, value)) = word.split_once('=') else {
-        return Err(NoAnswer::Form);
-    };
+fn ask(query: &mut Query, line: &mut Line<'_>, word: &str) -> Result<(), Starved> {
+    let (name, value) = word.split_once('=').unwrap_or(("page", "no number"));
     match name {
-        "page" => query.page = Some(number_of(value, 4_294_967_295)? as u32),
-        "count" => query.count = Some(number_of(value, 4_294_967_295)? as u32),
+        "page" => query.page = Some(slot_of(line, value)),
+        "count" => query.count = Some(slot_of(line, value)),
         _ => query.criteria.push(Criterion {
-            name: Text::copy_of(alloc, name)?,
-            pattern: Text::copy_of(alloc, value)?,
+            name: Text::copy_of(line.alloc, name)?,
+            pattern: Text::copy_of(line.alloc, value)?,
         })?,
     }
     Ok(())
 }
 
-/// Returns the query of a text: `ep` for endpoints or `res` for links, and what is asked for,
-/// separated by spaces.
-fn query_of(alloc: Global, said: &str) -> Result<Query, NoAnswer> {
+/// Reads a query: `ep` for endpoints or `res` for links, and what is asked for, separated by
+/// spaces.
+fn query_of(line: &mut Line<'_>, said: &str) -> Result<Query, Starved> {
     let (kind, rest) = cut(said);
-    let kind = match kind {
-        "ep" => Kind::Endpoint,
-        "res" => Kind::Resource,
-        _ => return Err(NoAnswer::Form),
-    };
+    if kind != "ep" && kind != "res" {
+        line.refuse();
+    }
     let mut query = Query {
-        kind,
-        criteria: Criteria::of(Vec::new(alloc)),
+        kind: if kind == "ep" {
+            Kind::Endpoint
+        } else {
+            Kind::Resource
+        },
+        criteria: Criteria::of(Vec::new(line.alloc)),
         page: None,
         count: None,
     };
     for word in rest.split_whitespace() {
-        ask(&mut query, alloc, word)?;
+        ask(&mut query, line, word)?;
     }
     Ok(query)
 }
 
 /// Writes a query as [`query_of`] reads it.
-fn put_query(page: &mut String, query: &Query) -> Result<(), Starved> {
-    page.push_str(match query.kind {
+fn put_query(line: &mut Line<'_>, query: &Query) {
+    line.put(match query.kind {
         Kind::Endpoint => "ep",
         Kind::Resource => "res",
         Kind::Discovery => "discovery",
-    })?;
+    });
     for criterion in query.criteria.as_slice() {
-        let name = criterion.name.as_str();
-        let pattern = criterion.pattern.as_str();
-        write!(page, " {name}={pattern}")?;
+        line.put(" ");
+        line.put(criterion.name.as_str());
+        line.put("=");
+        line.put(criterion.pattern.as_str());
     }
     if let Some(number) = query.page {
-        write!(page, " page={number}")?;
+        line.put(" page=");
+        line.put_number(u64::from(number));
     }
     if let Some(count) = query.count {
-        write!(page, " count={count}")?;
+        line.put(" count=");
+        line.put_number(u64::from(count));
     }
-    Ok(())
-}
-
-/// Returns the body of a text.
-fn body_of(alloc: Global, said: &str) -> Result<Arc<Bytes>, Starved> {
-    let body = octets_of(alloc, said)?;
-    Ok(Arc::new(alloc, body)?)
 }
 
 /// A table of watched queries.
 #[derive(Drop)]
 pub(crate) struct Watches {
-    /// The allocator of its memory.
-    alloc: Global,
     /// The table.
     table: WatchTable,
 }
@@ -141,117 +134,138 @@ impl Watches {
     /// Creates a table in which no query is watched.
     pub(crate) fn new(alloc: Global) -> Result<Watches, Starved> {
         Ok(Watches {
-            alloc,
             table: WatchTable::make(alloc)?,
         })
     }
 
     /// Watches a query. Returns its slot, or `None` if there is no free slot.
-    fn watch(&mut self, instead_of: Option<u32>, query: &Query) -> Result<Option<u32>, Starved> {
-        match self.table.watch(self.alloc, instead_of, query) {
-            Ok(slot) => Ok(Some(slot)),
-            Err(WatchFault::FullWatches) => Ok(None),
-            Err(WatchFault::Starved) => Err(Starved),
+    fn watch(
+        &mut self,
+        line: &mut Line<'_>,
+        instead_of: Option<u32>,
+        query: &Query,
+    ) -> Option<u32> {
+        match self.table.watch(line.alloc, instead_of, query) {
+            Ok(slot) => Some(slot),
+            Err(WatchFault::FullWatches) => None,
+            Err(WatchFault::Starved) => {
+                line.note(NoAnswer::Starved);
+                None
+            }
         }
     }
 
     /// Watches a query, in place of the one in a slot if a slot is given, and writes its slot.
-    fn watch_said(&mut self, page: &mut String, said: &str) -> Result<(), NoAnswer> {
-        let (slot, query) = cut(said);
-        let query = query_of(self.alloc, query)?;
-        let instead_of = match slot {
-            "-" => None,
-            _ => Some(slot_of(slot)?),
-        };
-        match self.watch(instead_of, &query)? {
-            Some(slot) => put_numbers(page, &[u64::from(slot)])?,
-            None => page.push_str("full")?,
+    fn watch_said(&mut self, line: &mut Line<'_>) -> Result<(), Starved> {
+        let slot = line.word();
+        let query = query_of(line, line.said)?;
+        let mut instead_of = None;
+        if slot != "-" {
+            instead_of = Some(slot_of(line, slot));
+        }
+        match self.watch(line, instead_of, &query) {
+            Some(slot) => line.put_number(u64::from(slot)),
+            None => line.put("full"),
         }
         Ok(())
     }
 
     /// Watches the first pages of one line each, of the links of a resource type. Writes how many
     /// have the slot of their page number.
-    fn watch_pages(&mut self, page: &mut String, said: &str) -> Result<(), NoAnswer> {
-        let count = slot_of(said)?;
-        let mut query = query_of(self.alloc, "res rt=lux count=1")?;
+    fn watch_pages(&mut self, line: &mut Line<'_>) -> Result<(), Starved> {
+        let count = slot_of(line, line.said);
+        let mut query = query_of(line, "res rt=lux count=1")?;
         let mut in_order = 0;
         for number in 0..count {
             query.page = Some(number);
-            if self.watch(None, &query)? == Some(number) {
+            if self.watch(line, None, &query) == Some(number) {
                 in_order = u64::wrapping_add(in_order, 1);
             }
         }
-        put_numbers(page, &[in_order])?;
+        line.put_number(in_order);
         Ok(())
     }
 
     /// Writes which slots are marked.
-    fn put_marked(&self, page: &mut String) -> Result<(), Starved> {
-        let mut slots = Vec::new(self.alloc);
+    fn put_marked(&self, line: &mut Line<'_>) {
+        let mut space = "";
         for slot in 0..257 {
             if self.table.marked(slot) {
-                slots.push(u64::from(slot))?;
+                line.put(space);
+                line.put_number(u64::from(slot));
+                space = " ";
             }
         }
-        put_numbers(page, slots.as_slice())
+        if line.page.is_empty() {
+            line.put("none");
+        }
     }
 
     /// Reports a change of a registration to the table, and writes which slots are then marked.
-    fn touch(&mut self, page: &mut String, said: &str) -> Result<(), NoAnswer> {
-        let (old, new) = cut(said);
-        let old = some_record(self.alloc, old)?;
-        let new = some_record(self.alloc, new)?;
+    fn touch(&mut self, line: &mut Line<'_>) -> Result<(), Starved> {
+        let old = some_record(line.alloc, line.word())?;
+        let new = some_record(line.alloc, line.said)?;
         self.table.touched(old.as_ref(), new.as_ref());
-        self.put_marked(page)?;
+        self.put_marked(line);
         Ok(())
     }
 
     /// Writes the body that is stored for a slot, or the query that is watched there; `none` if no
     /// body is stored for it.
-    fn read(&self, page: &mut String, verb: &str, said: &str) -> Result<(), NoAnswer> {
-        let slot = slot_of(said)?;
-        let Some(body) = self.table.body(slot) else {
-            page.push_str("none")?;
-            return Ok(());
-        };
-        if verb == "query" {
-            put_query(page, self.table.query(slot))?;
-        } else {
-            put_octets(page, body.as_slice())?;
+    fn read(&self, line: &mut Line<'_>, verb: &str) {
+        let slot = slot_of(line, line.said);
+        match self.table.body(slot) {
+            None => line.put("none"),
+            Some(body) => {
+                if verb == "query" {
+                    put_query(line, self.table.query(slot));
+                } else {
+                    line.put_octets(body.as_slice());
+                }
+            }
         }
-        Ok(())
     }
 
     /// Stores the body for a slot.
-    fn set(&mut self, said: &str) -> Result<(), NoAnswer> {
-        let (slot, body) = cut(said);
-        let slot = slot_of(slot)?;
-        self.table.set_body(slot, body_of(self.alloc, body)?);
+    fn set(&mut self, line: &mut Line<'_>) -> Result<(), Starved> {
+        let slot = line.word();
+        let slot = slot_of(line, slot);
+        let body = line.octets(line.said);
+        let body = Arc::new(line.alloc, body)?;
+        self.table.set_body(slot, body);
         Ok(())
     }
 
-    /// Does what a line says, and writes the answer. Returns `Form` if the line is not a call on a
-    /// table of watched queries.
-    pub(crate) fn answer(&mut self, page: &mut String, said: &str) -> Result<(), NoAnswer> {
-        let (verb, rest) = cut(said);
+    /// Does what a line says without new memory, and writes the answer.
+    fn answer_at_once(&mut self, line: &mut Line<'_>, verb: &str) {
         match verb {
-            "new" => self.table = WatchTable::make(self.alloc)?,
-            "watch" => self.watch_said(page, rest)?,
-            "watch_pages" => self.watch_pages(page, rest)?,
-            "unwatch" => self.table.unwatch(slot_of(rest)?),
-            "touch" => self.touch(page, rest)?,
-            "marked" => self.put_marked(page)?,
+            "unwatch" => {
+                let slot = slot_of(line, line.said);
+                self.table.unwatch(slot);
+            }
+            "marked" => self.put_marked(line),
             "clear" => self.table.clear(),
-            "set" => self.set(rest)?,
-            "body" | "query" => self.read(page, verb, rest)?,
-            _ => return Err(NoAnswer::Form),
+            "body" | "query" => self.read(line, verb),
+            _ => line.refuse(),
+        }
+    }
+
+    /// Does what a line says, and writes the answer.
+    pub(crate) fn answer(&mut self, line: &mut Line<'_>) -> Result<(), Starved> {
+        let verb = line.word();
+        match verb {
+            "new" => self.table = WatchTable::make(line.alloc)?,
+            "watch" => self.watch_said(line)?,
+            "watch_pages" => self.watch_pages(line)?,
+            "touch" => self.touch(line)?,
+            "set" => self.set(line)?,
+            _ => self.answer_at_once(line, verb),
         }
         Ok(())
     }
 }
 
-/// Returns the slot that a word names, or `Form` if it names none.
-fn slot_of(word: &str) -> Result<u32, NoAnswer> {
-    Ok(number_of(word, 4_294_967_295)? as u32)
+/// Reads the number of a slot, or another one of four octets.
+fn slot_of(line: &mut Line<'_>, word: &str) -> u32 {
+    line.number_in(word, 4_294_967_295) as u32
 }

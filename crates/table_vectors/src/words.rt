@@ -1,39 +1,23 @@
-//! Numbers in a line.
+//! Numbers in an answer.
 
-use rd_base::Starved;
-use vector_words::{NoAnswer, number_of};
-
-/// Returns `N` numbers, separated by spaces, or `Form` if the text is not `N` numbers.
-pub(crate) fn numbers_of<const N: usize>(said: &str) -> Result<[u64; N], NoAnswer> {
-    let mut numbers = [0; N];
-    let mut words = said.split_whitespace();
-    for number in numbers.iter_mut() {
-        let Some(word) = words.next() else {
-            return Err(NoAnswer::Form);
-        };
-        *number = number_of(word, u64::MAX)?;
-    }
-    if words.next().is_some() {
-        return Err(NoAnswer::Form);
-    }
-    Ok(numbers)
-}
+use vector_words::Line;
 
 /// Writes numbers, separated by spaces, or that there are none.
-pub(crate) fn put_numbers(page: &mut String, numbers: &[u64]) -> Result<(), Starved> {
-    let Some((first, rest)) = numbers.split_first() else {
-        return Ok(page.push_str("none")?);
-    };
-    let first = *first;
-    write!(page, "{first}")?;
-    for number in rest {
-        let number = *number;
-        write!(page, " {number}")?;
+pub(crate) fn put_numbers(line: &mut Line<'_>, numbers: &[u64]) {
+    let mut space = "";
+    for number in numbers {
+        line.put(space);
+        line.put_number(*number);
+        space = " ";
     }
-    Ok(())
+    if numbers.is_empty() {
+        line.put("none");
+    }
 }
 
 /// Writes how many numbers there are, and their checksum.
-pub(crate) fn put_sum(page: &mut String, count: u64, sum: u64) -> Result<(), Starved> {
-    Ok(write!(page, "{count}, checksum {sum}")?)
+pub(crate) fn put_sum(line: &mut Line<'_>, count: u64, sum: u64) {
+    line.put_number(count);
+    line.put(", checksum ");
+    line.put_number(sum);
 }

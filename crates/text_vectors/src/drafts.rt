@@ -5,7 +5,7 @@
 //! - `weight NUMBER REGISTRATION`;
 //! - `rebased update?OPTIONS REGISTRATION`: its links resolved against the base of the update, and
 //!   those resolved again against their own base.
-ghost use Rattle.std.specs.Prelude.{◌≡◌, true, IfOk, IfSome};
+ghost use Rattle.std.specs.Prelude.{◌≡◌, true, IfSome};
 ghost use Rattle.std.specs.List.{list_all};
 ghost use Rattle.record_model.specs.Parameters.{is_base};
 ghost use Rattle.registration.specs.Drafts.{has_references};
@@ -13,137 +13,107 @@ ghost use Rattle.registration.specs.Drafts.{has_references};
 use crate::pages::{
     begin, put_fault, put_items, put_named, put_number, put_optional, put_pairs, text_in,
 };
-use crate::queries::params_of;
+use crate::queries::{note_bad, params_of};
 use crate::requests::Request;
-use query_text::{QueryBad, update_params};
-use rd_base::{Bytes, Peer, RegParams, Starved, Text, UpdateParams, peer_read};
+use query_text::update_params;
+use rd_base::{Starved, Text, UpdateParams, peer_read};
 use registration::{Draft, DraftFault, build, rebased, weight};
-use std::alloc::Global;
-use vector_words::{NoAnswer, cut, number_of, octets_of};
+use vector_words::{Line, NoAnswer};
 
-/// A registration as it is submitted.
-#[derive(Drop)]
-struct Submission {
-    /// The parameters.
-    params: RegParams,
-    /// The peer that submits it.
-    peer: Peer,
-    /// The links.
-    body: Bytes,
-}
-
-/// Returns the peer that a request names, or `Form` if it names none.
-fn peer_of(request: &Request<'_>) -> Result<Peer, NoAnswer> {
-    match peer_read(request.path) {
-        Ok(peer) => Ok(peer),
-        Err(_) => Err(NoAnswer::Form),
+/// Writes the fault of the body of a registration.
+fn put_draft_fault(line: &mut Line<'_>, fault: DraftFault) {
+    match fault {
+        DraftFault::Links(at) => put_fault(line, "links", at),
+        DraftFault::Reference(at) => put_fault(line, "reference", at),
+        DraftFault::Limited(link) => put_fault(line, "limited", link),
+        DraftFault::Starved => line.note(NoAnswer::Starved),
     }
 }
 
-/// Returns the registration in a text, or `Form` if there is none.
-fn submission_of(alloc: Global, said: &str) -> Result<Submission, NoAnswer>
-    ensures { IfOk result (λ said. IfSome said.params.base (λ base. is_base base ≡ true)) }
+/// Reads a registration and returns its draft, or writes the fault of its body.
+fn draft_of(line: &mut Line<'_>) -> Option<Draft>
+    ensures references { IfSome result (λ draft. list_all has_references draft.items ≡ true) }
+    ensures base { IfSome result (λ draft. is_base draft.base ≡ true) }
 {
-    let (word, body) = cut(said);
-    let request = Request::of(alloc, word)?;
-    let peer = peer_of(&request)?;
-    let params = params_of(alloc, &request)?;
-    let body = octets_of(alloc, body)?;
-    Ok(Submission { params, peer, body })
-}
-
-/// Returns the draft of a registration, or `Form` if there is none or its body is refused.
-fn draft_of(alloc: Global, said: &str) -> Result<Draft, NoAnswer>
-    ensures references { IfOk result (λ draft. list_all has_references draft.items ≡ true) }
-    ensures base { IfOk result (λ draft. is_base draft.base ≡ true) }
-{
-    let Submission { params, peer, body } = submission_of(alloc, said)?;
-    match build(alloc, params, peer, body.as_slice()) {
-        Ok(draft) => Ok(draft),
-        Err(DraftFault::Starved) => Err(NoAnswer::Starved),
-        Err(_) => Err(NoAnswer::Form),
+    let word = line.word();
+    let request = Request::of(line, word);
+    let params = params_of(line, &request)?;
+    let body = line.octets(line.said);
+    let Ok(peer) = peer_read(request.path) else {
+        line.refuse();
+        return None;
+    };
+    match build(line.alloc, params, peer, body.as_slice()) {
+        Ok(draft) => Some(draft),
+        Err(fault) => {
+            put_draft_fault(line, fault);
+            None
+        }
     }
 }
 
 /// Writes a draft, and whether its base was given.
-fn put_draft(page: &mut String, draft: &Draft) -> Result<(), Starved> {
-    put_named(page, "ep", draft.name.ep.as_str())?;
-    put_optional(page, "d", text_in(&draft.name.sector))?;
-    put_number(page, "lt", u64::from(draft.lt))?;
-    put_named(page, "base", draft.base.as_str())?;
-    page.push_str(if draft.base_given {
+fn put_draft(line: &mut Line<'_>, draft: &Draft) {
+    put_named(line, "ep", draft.name.ep.as_str());
+    put_optional(line, "d", text_in(&draft.name.sector));
+    put_number(line, "lt", u64::from(draft.lt));
+    put_named(line, "base", draft.base.as_str());
+    line.put(if draft.base_given {
         " given"
     } else {
         " of the peer"
-    })?;
-    put_pairs(page, draft.attrs.as_slice())?;
-    put_items(page, draft.items.links())
+    });
+    put_pairs(line, draft.attrs.as_slice());
+    put_items(line, draft.items.links());
 }
 
-/// Writes the answer of `build` for a registration.
-fn put_built(page: &mut String, alloc: Global, said: &str) -> Result<(), NoAnswer> {
-    let Submission { params, peer, body } = submission_of(alloc, said)?;
-    match build(alloc, params, peer, body.as_slice()) {
-        Ok(draft) => put_draft(page, &draft)?,
-        Err(DraftFault::Links(at)) => put_fault(page, "links", at)?,
-        Err(DraftFault::Reference(at)) => put_fault(page, "reference", at)?,
-        Err(DraftFault::Limited(link)) => put_fault(page, "limited", link)?,
-        Err(DraftFault::Starved) => return Err(NoAnswer::Starved),
+/// Writes the draft of a registration, or the fault of its body.
+pub(crate) fn put_built(line: &mut Line<'_>) {
+    if let Some(draft) = draft_of(line) {
+        put_draft(line, &draft);
     }
-    Ok(())
 }
 
 /// Writes the weight of the draft of a registration with this number.
-fn put_weight(page: &mut String, alloc: Global, said: &str) -> Result<(), NoAnswer> {
-    let (number, registration) = cut(said);
-    let number = number_of(number, u64::MAX)?;
-    let draft = draft_of(alloc, registration)?;
-    let weight = weight(&draft, number);
-    Ok(write!(page, "{weight}")?)
+pub(crate) fn put_weight(line: &mut Line<'_>) {
+    let number = line.number(u64::MAX);
+    match draft_of(line) {
+        Some(draft) => line.put_number(weight(&draft, number)),
+        None => line.refuse(),
+    }
 }
 
-/// Returns the base that an update gives, or `Form` if it gives none.
-fn base_of(alloc: Global, word: &str) -> Result<Text, NoAnswer>
-    ensures { IfOk result (λ base. is_base base ≡ true) }
+/// Reads the base that an update gives, if it gives one.
+fn base_of(line: &mut Line<'_>) -> Option<Text>
+    ensures { IfSome result (λ base. is_base base ≡ true) }
 {
-    let request = Request::of(alloc, word)?;
-    let UpdateParams { base, .. } = match update_params(alloc, request.queries()) {
-        Ok(params) => params,
-        Err(QueryBad::At { .. }) => return Err(NoAnswer::Form),
-        Err(QueryBad::Starved) => return Err(NoAnswer::Starved),
-    };
-    match base {
-        Some(base) => Ok(base),
-        None => Err(NoAnswer::Form),
+    let word = line.word();
+    let request = Request::of(line, word);
+    match update_params(line.alloc, request.queries()) {
+        Ok(UpdateParams { base, .. }) => base,
+        Err(bad) => {
+            note_bad(line, bad);
+            None
+        }
     }
 }
 
-/// Writes the links of a registration resolved against another base, and those resolved again
-/// against their own base.
-fn put_rebased(page: &mut String, alloc: Global, said: &str) -> Result<(), NoAnswer> {
-    let (update, registration) = cut(said);
-    let base = base_of(alloc, update)?;
-    let draft = draft_of(alloc, registration)?;
-    let items = rebased(alloc, &draft.items, &base)?;
-    put_items(page, items.links())?;
-    begin(page)?;
-    page.push_str("back")?;
-    let items = rebased(alloc, &items, &draft.base)?;
-    Ok(put_items(page, items.links())?)
-}
-
-/// Writes the answer of a call. Returns whether the call is one of these.
-pub(crate) fn put_answer(
-    page: &mut String,
-    alloc: Global,
-    call: &str,
-    said: &str,
-) -> Result<bool, NoAnswer> {
-    match call {
-        "build" => put_built(page, alloc, said)?,
-        "weight" => put_weight(page, alloc, said)?,
-        "rebased" => put_rebased(page, alloc, said)?,
-        _ => return Ok(false),
+/// Writes the links of a registration resolved against the base of an update, and those resolved
+/// again against their own base.
+pub(crate) fn put_rebased(line: &mut Line<'_>) -> Result<(), Starved> {
+    let base = base_of(line);
+    let draft = draft_of(line);
+    if let Some(base) = base {
+        if let Some(draft) = draft {
+            let items = rebased(line.alloc, &draft.items, &base)?;
+            put_items(line, items.links());
+            begin(line);
+            line.put("back");
+            let items = rebased(line.alloc, &items, &draft.base)?;
+            put_items(line, items.links());
+            return Ok(());
+        }
     }
-    Ok(true)
+    line.refuse();
+    Ok(())
 }

@@ -10,99 +10,105 @@ use crate::queries::query_of;
 use crate::records::record_of;
 use listing::{discovery, endpoint_listed, lines, matches, page_bounds, same_part};
 use rd_base::{Query, Record, Starved};
-use std::alloc::Global;
-use vector_words::{NoAnswer, cut, number_of, octets_of, put_octets, yes_or_no};
+use vector_words::{Line, yes_or_no};
 
-/// Returns whether a query lists the link at an index, or `Form` if the registration has none
-/// there.
-fn is_matched(alloc: Global, query: &Query, said: &str) -> Result<bool, NoAnswer> {
-    let (index, record) = cut(said);
-    let index = number_of(index, u64::MAX)? as usize;
-    let record = record_of(alloc, record)?;
-    if index >= record.items.len() {
-        return Err(NoAnswer::Form);
+/// Writes whether a query lists the link at an index of a registration.
+fn put_matched(line: &mut Line<'_>, query: &Query, record: &Record, index: usize) {
+    if index < record.items.len() {
+        line.put(yes_or_no(matches(query, record, index)));
+    } else {
+        line.refuse();
     }
-    Ok(matches(query, &record, index))
 }
 
 /// Returns the registration in a text, or `None` for `-`.
-fn record_in(alloc: Global, said: &str) -> Result<Option<Record>, NoAnswer> {
+fn record_in(line: &mut Line<'_>, said: &str) -> Option<Record> {
     if said == "-" {
-        return Ok(None);
+        return None;
     }
-    Ok(Some(record_of(alloc, said)?))
+    record_of(line, said)
 }
 
-/// Returns whether a query lists the same lines of two registrations, or `Form` if the text does
-/// not have them.
-fn is_same(alloc: Global, query: &Query, said: &str) -> Result<bool, NoAnswer> {
-    let Some((old, new)) = said.split_once(" -> ") else {
-        return Err(NoAnswer::Form);
-    };
-    let old = record_in(alloc, old)?;
-    let new = record_in(alloc, new)?;
-    Ok(same_part(query, old.as_ref(), new.as_ref()))
+/// Writes whether a query lists the same lines of two registrations.
+fn put_same(line: &mut Line<'_>, query: &Query) {
+    let (old, new) = line.said.split_once(" -> ").unwrap_or(("", ""));
+    let old = record_in(line, old);
+    let new = record_in(line, new);
+    line.put(yes_or_no(same_part(query, old.as_ref(), new.as_ref())));
+}
+
+/// The lines of a registration that a line asks for.
+#[derive(Clone, Copy)]
+struct Shown {
+    /// How many are skipped.
+    skip: u64,
+    /// The maximum number of lines.
+    most: u64,
 }
 
 /// Writes the lines that a registration contributes to a query, after the numbers of those skipped
 /// and written.
-fn put_lines(page: &mut String, alloc: Global, query: &Query, said: &str) -> Result<(), NoAnswer> {
-    let (skip, rest) = cut(said);
-    let (most, rest) = cut(rest);
-    let (before, record) = cut(rest);
-    let skip = number_of(skip, u64::MAX)?;
-    let most = number_of(most, u64::MAX)?;
-    let mut text = octets_of(alloc, before)?;
-    let record = record_of(alloc, record)?;
-    let (skipped, written) = lines(alloc, query, &record, skip, most, &mut text)?;
-    put_number(page, "skipped", skipped)?;
-    put_number(page, "written", written)?;
-    begin(page)?;
-    Ok(put_octets(page, text.as_slice())?)
+fn put_lines(
+    line: &mut Line<'_>,
+    query: &Query,
+    record: &Record,
+    shown: Shown,
+    before: &str,
+) -> Result<(), Starved> {
+    let mut text = line.octets(before);
+    let Shown { skip, most } = shown;
+    let (skipped, written) = lines(line.alloc, query, record, skip, most, &mut text)?;
+    put_number(line, "skipped", skipped);
+    put_number(line, "written", written);
+    begin(line);
+    line.put_octets(text.as_slice());
+    Ok(())
 }
 
 /// Writes how many lines precede a page, and the maximum number of its lines.
-fn put_bounds(page: &mut String, query: &Query) -> Result<(), Starved> {
+fn put_bounds(line: &mut Line<'_>, query: &Query) {
     let (skip, most) = page_bounds(query);
-    put_number(page, "skip", skip)?;
-    put_number(page, "most", most)
+    put_number(line, "skip", skip);
+    put_number(line, "most", most);
 }
 
-/// Writes the answer of a call on a lookup.
-fn put_of(
-    page: &mut String,
-    alloc: Global,
-    call: &str,
-    query: &Query,
-    said: &str,
-) -> Result<(), NoAnswer> {
+/// Writes the answer of a call on a lookup and a registration.
+fn put_of_record(line: &mut Line<'_>, call: &str, query: &Query) -> Result<(), Starved> {
+    let mut index = 0;
+    let mut most = 0;
+    let mut before = "";
+    if call != "endpoint_listed" {
+        index = line.number(u64::MAX);
+    }
+    if call == "lines" {
+        most = line.number(u64::MAX);
+        before = line.word();
+    }
+    let Some(record) = record_of(line, line.said) else {
+        return Ok(());
+    };
     match call {
-        "matches" => page.push_str(yes_or_no(is_matched(alloc, query, said)?))?,
-        "endpoint_listed" => {
-            page.push_str(yes_or_no(endpoint_listed(query, &record_of(alloc, said)?)))?
-        }
-        "same_part" => page.push_str(yes_or_no(is_same(alloc, query, said)?))?,
-        "lines" => put_lines(page, alloc, query, said)?,
-        "discovery" => put_octets(page, discovery(alloc, query)?.as_slice())?,
-        _ => put_bounds(page, query)?,
+        "matches" => put_matched(line, query, &record, index as usize),
+        "lines" => return put_lines(line, query, &record, Shown { skip: index, most }, before),
+        _ => line.put(yes_or_no(endpoint_listed(query, &record))),
     }
     Ok(())
 }
 
-/// Writes the answer of a call. Returns whether the call is one of these.
-pub(crate) fn put_answer(
-    page: &mut String,
-    alloc: Global,
-    call: &str,
-    said: &str,
-) -> Result<bool, NoAnswer> {
+/// Writes the answer of one of these calls.
+pub(crate) fn put_answer(line: &mut Line<'_>, call: &str) -> Result<(), Starved> {
+    let lookup = line.word();
+    let Some(query) = query_of(line, lookup) else {
+        return Ok(());
+    };
     match call {
-        "matches" | "endpoint_listed" | "same_part" | "lines" | "discovery" | "page_bounds" => {
-            let (lookup, rest) = cut(said);
-            let query = query_of(alloc, lookup)?;
-            put_of(page, alloc, call, &query, rest)?;
-            Ok(true)
+        "page_bounds" => put_bounds(line, &query),
+        "same_part" => put_same(line, &query),
+        "discovery" => {
+            let text = discovery(line.alloc, &query)?;
+            line.put_octets(text.as_slice());
         }
-        _ => Ok(false),
+        _ => return put_of_record(line, call, &query),
     }
+    Ok(())
 }

@@ -11,98 +11,90 @@ use listing::{
     matches_value,
 };
 use rd_base::{Criterion, Starved, Text};
-use std::alloc::Global;
-use vector_words::{NoAnswer, cut, put_octets, text_of, yes_or_no};
+use vector_words::{Line, yes_or_no};
 
-/// Returns the text before the first equals sign and the text after it. Without one, returns the
-/// whole text and an empty one.
-fn name_and_pattern(text: &str) -> (&str, &str) {
-    match text.split_once('=') {
-        Some(parts) => parts,
-        None => (text, ""),
-    }
-}
-
-/// Returns the criterion of an argument, or `Form` if its octets are not UTF-8.
-fn criterion_of(alloc: Global, word: &str) -> Result<Criterion, NoAnswer> {
-    let text = text_of(alloc, word)?;
-    let (name, pattern) = name_and_pattern(text.as_str());
-    let name = Text::copy_of(alloc, name)?;
-    let pattern = Text::copy_of(alloc, pattern)?;
-    Ok(Criterion { name, pattern })
+/// Reads a criterion: its name, and its pattern after the first equals sign.
+fn criterion_of(line: &mut Line<'_>) -> Result<Criterion, Starved> {
+    let word = line.word();
+    let text = line.text(word);
+    let text = text.as_str();
+    let (name, pattern) = text.split_once('=').unwrap_or((text, ""));
+    Ok(Criterion {
+        name: Text::copy_of(line.alloc, name)?,
+        pattern: Text::copy_of(line.alloc, pattern)?,
+    })
 }
 
 /// Writes the part of a pattern before its asterisk.
-fn put_front(page: &mut String, pattern: &str) -> Result<(), Starved> {
-    match before_wildcard(pattern) {
-        Some(front) => put_octets(page, front.as_bytes()),
-        None => Ok(page.push_str("none")?),
+pub(crate) fn put_front(line: &mut Line<'_>) {
+    let pattern = line.text(line.said);
+    match before_wildcard(pattern.as_str()) {
+        Some(front) => line.put_octets(front.as_bytes()),
+        None => line.put("none"),
     }
 }
 
 /// Writes the first part of a value, and the rest.
-fn put_first_part(page: &mut String, value: &str) -> Result<(), Starved> {
-    let Some((part, rest)) = first_part(value) else {
-        return Ok(page.push_str("none")?);
-    };
-    put_text(page, part)?;
-    begin(page)?;
-    put_octets(page, rest.as_bytes())
+pub(crate) fn put_first_part(line: &mut Line<'_>) {
+    let value = line.text(line.said);
+    match first_part(value.as_str()) {
+        Some((part, rest)) => {
+            put_text(line, part);
+            begin(line);
+            line.put_octets(rest.as_bytes());
+        }
+        None => line.put("none"),
+    }
 }
 
-/// Returns whether a pattern matches a value.
-fn is_matched(alloc: Global, pattern: &str, value: &str) -> Result<bool, NoAnswer> {
-    let pattern = text_of(alloc, pattern)?;
-    let value = text_of(alloc, value)?;
-    Ok(matches_value(pattern.as_str(), value.as_str()))
+/// Writes whether a name is one of those whose values are lists.
+pub(crate) fn put_is_list_name(line: &mut Line<'_>) {
+    line.put(yes_or_no(is_list_name(line.said)));
+}
+
+/// Writes whether a pattern matches a value.
+pub(crate) fn put_matched(line: &mut Line<'_>) {
+    let pattern = line.word();
+    let pattern = line.text(pattern);
+    let value = line.text(line.said);
+    line.put(yes_or_no(matches_value(pattern.as_str(), value.as_str())));
 }
 
 /// Returns whether a criterion's pattern matches a value of its name.
-fn is_named_matched(alloc: Global, criterion: &Criterion, value: &str) -> Result<bool, NoAnswer> {
-    let value = text_of(alloc, value)?;
+fn is_named_matched(line: &mut Line<'_>, criterion: &Criterion) -> bool {
+    let value = line.text(line.said);
     let name = criterion.name.as_str();
     let pattern = criterion.pattern.as_str();
-    Ok(matches_named(name, pattern, value.as_str()))
+    matches_named(name, pattern, value.as_str())
 }
 
-/// Returns whether a criterion matches a link, or `Form` if there is no link.
-fn is_link_matched(alloc: Global, criterion: &Criterion, said: &str) -> Result<bool, NoAnswer> {
-    let items = items_of(alloc, said)?;
-    match items.links().get(0) {
-        Some(link) => Ok(link_matches(criterion, &link)),
-        None => Err(NoAnswer::Form),
-    }
-}
-
-/// Returns the truth value of a call on two arguments.
-fn holds(alloc: Global, call: &str, said: &str) -> Result<bool, NoAnswer> {
-    let (word, rest) = cut(said);
-    if call == "matches_value" {
-        return is_matched(alloc, word, rest);
-    }
-    let criterion = criterion_of(alloc, word)?;
-    match call {
-        "matches_named" => is_named_matched(alloc, &criterion, rest),
-        "link_matches" => is_link_matched(alloc, &criterion, rest),
-        _ => Ok(endpoint_matches(&criterion, &record_of(alloc, rest)?)),
-    }
-}
-
-/// Writes the answer of a call. Returns whether the call is one of these.
-pub(crate) fn put_answer(
-    page: &mut String,
-    alloc: Global,
-    call: &str,
-    said: &str,
-) -> Result<bool, NoAnswer> {
-    match call {
-        "before_wildcard" => put_front(page, text_of(alloc, said)?.as_str())?,
-        "first_part" => put_first_part(page, text_of(alloc, said)?.as_str())?,
-        "is_list_name" => page.push_str(yes_or_no(is_list_name(said)))?,
-        "matches_value" | "matches_named" | "link_matches" | "endpoint_matches" => {
-            page.push_str(yes_or_no(holds(alloc, call, said)?))?
+/// Returns whether a criterion matches a link.
+fn is_link_matched(line: &mut Line<'_>, criterion: &Criterion) -> bool {
+    if let Some(items) = items_of(line, line.said) {
+        if let Some(link) = items.links().get(0) {
+            return link_matches(criterion, &link);
         }
-        _ => return Ok(false),
     }
-    Ok(true)
+    line.refuse();
+    false
+}
+
+/// Returns whether a criterion matches a registration.
+fn is_endpoint_matched(line: &mut Line<'_>, criterion: &Criterion) -> bool {
+    match record_of(line, line.said) {
+        Some(record) => endpoint_matches(criterion, &record),
+        None => false,
+    }
+}
+
+/// Writes the truth value of a call on a criterion and what it may match.
+pub(crate) fn put_holds(line: &mut Line<'_>, call: &str) -> Result<(), Starved> {
+    let criterion = criterion_of(line)?;
+    let holds = match call {
+        "matches_named" => is_named_matched(line, &criterion),
+        "link_matches" => is_link_matched(line, &criterion),
+        _ => is_endpoint_matched(line, &criterion),
+    };
+    line.put(yes_or_no(holds));
+    Ok(())
 }

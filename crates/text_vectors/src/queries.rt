@@ -4,164 +4,174 @@
 //! - `reg_params register?OPTIONS` and `reg_params simple?OPTIONS`;
 //! - `update_params update?OPTIONS`;
 //! - `lookup_query KIND?OPTIONS`, in which the kind is `res`, `ep` or `core`.
-ghost use Rattle.std.specs.Prelude.{◌≡◌, true, IfOk, IfSome};
+ghost use Rattle.std.specs.Prelude.{◌≡◌, true, IfSome};
 ghost use Rattle.record_model.specs.Parameters.{is_base};
 
 use crate::pages::{put_named, put_number, put_optional, put_pairs, text_in};
-use crate::requests::{Listed, Request};
+use crate::requests::Request;
 use query_text::{QueryBad, Reading, Why, fault, lookup_query, reg_params, update_params};
-use rd_base::{Kind, Query, RegParams, Starved, UpdateParams};
-use std::alloc::Global;
-use vector_words::NoAnswer;
+use rd_base::{Kind, Query, RegParams, UpdateParams};
+use vector_words::{Line, NoAnswer};
 
 /// Returns what a path says that the options are read as.
-fn reading_of(path: &str) -> Result<Reading, NoAnswer> {
+fn reading_of(line: &mut Line<'_>, path: &str) -> Reading {
     match path {
-        "register" => Ok(Reading::Register),
-        "simple" => Ok(Reading::Simple),
-        "update" => Ok(Reading::Update),
-        "lookup" => Ok(Reading::Lookup),
-        _ => Err(NoAnswer::Form),
+        "register" => Reading::Register,
+        "simple" => Reading::Simple,
+        "update" => Reading::Update,
+        _ => {
+            if path != "lookup" {
+                line.refuse();
+            }
+            Reading::Lookup
+        }
     }
 }
 
 /// Returns the kind of lookup that a path names.
-fn kind_of(path: &str) -> Result<Kind, NoAnswer> {
+fn kind_of(line: &mut Line<'_>, path: &str) -> Kind {
     match path {
-        "res" => Ok(Kind::Resource),
-        "ep" => Ok(Kind::Endpoint),
-        "core" => Ok(Kind::Discovery),
-        _ => Err(NoAnswer::Form),
+        "res" => Kind::Resource,
+        "ep" => Kind::Endpoint,
+        _ => {
+            if path != "core" {
+                line.refuse();
+            }
+            Kind::Discovery
+        }
     }
 }
 
-/// Returns the query of an argument, or `Form` if it is none.
-pub(crate) fn query_of(alloc: Global, word: &str) -> Result<Query, NoAnswer> {
-    let request = Request::of(alloc, word)?;
-    let kind = kind_of(request.path)?;
-    match lookup_query(alloc, kind, request.queries()) {
-        Ok(query) => Ok(query),
-        Err(QueryBad::At { .. }) => Err(NoAnswer::Form),
-        Err(QueryBad::Starved) => Err(NoAnswer::Starved),
+/// Notes that options which a call needs are refused.
+pub(crate) fn note_bad(line: &mut Line<'_>, bad: QueryBad) {
+    match bad {
+        QueryBad::At { .. } => line.refuse(),
+        QueryBad::Starved => line.note(NoAnswer::Starved),
     }
 }
 
-/// Returns the parameters of a registration that a request gives, or `Form` if they are refused.
-pub(crate) fn params_of(alloc: Global, request: &Request<'_>) -> Result<RegParams, NoAnswer>
-    ensures { IfOk result (λ params. IfSome params.base (λ base. is_base base ≡ true)) }
+/// Returns the query of an argument, if it is one.
+pub(crate) fn query_of(line: &mut Line<'_>, word: &str) -> Option<Query> {
+    let request = Request::of(line, word);
+    let kind = kind_of(line, request.path);
+    match lookup_query(line.alloc, kind, request.queries()) {
+        Ok(query) => Some(query),
+        Err(bad) => {
+            note_bad(line, bad);
+            None
+        }
+    }
+}
+
+/// Returns the parameters of a registration that a request gives, if they are not refused.
+pub(crate) fn params_of(line: &mut Line<'_>, request: &Request<'_>) -> Option<RegParams>
+    ensures { IfSome result (λ params. IfSome params.base (λ base. is_base base ≡ true)) }
 {
-    match reg_params(alloc, request.queries(), false) {
-        Ok(params) => Ok(params),
-        Err(QueryBad::At { .. }) => Err(NoAnswer::Form),
-        Err(QueryBad::Starved) => Err(NoAnswer::Starved),
+    match reg_params(line.alloc, request.queries(), false) {
+        Ok(params) => Some(params),
+        Err(bad) => {
+            note_bad(line, bad);
+            None
+        }
     }
 }
 
 /// Writes why options are refused, with the index of the first that is.
-fn put_why(page: &mut String, index: usize, why: Why) -> Result<(), Starved> {
-    Ok(write!(page, "{why:?} at {index}")?)
+fn put_why(line: &mut Line<'_>, index: usize, why: Why) {
+    if write!(line.page, "{why:?} at {index}").is_err() {
+        line.note(NoAnswer::Starved);
+    }
 }
 
 /// Writes why options give no value.
-fn put_bad(page: &mut String, bad: QueryBad) -> Result<(), Starved> {
+fn put_bad(line: &mut Line<'_>, bad: QueryBad) {
     match bad {
-        QueryBad::At { index, why } => put_why(page, index, why),
-        QueryBad::Starved => Err(Starved),
+        QueryBad::At { index, why } => put_why(line, index, why),
+        QueryBad::Starved => line.note(NoAnswer::Starved),
     }
 }
 
 /// Writes the first fault of options, or that they have none.
-fn put_first_fault(page: &mut String, kind: Reading, queries: Listed<'_>) -> Result<(), Starved> {
-    match fault(kind, queries) {
-        Some((index, why)) => put_why(page, index, why),
-        None => Ok(page.push_str("none")?),
+fn put_first_fault(line: &mut Line<'_>, request: &Request<'_>) {
+    let reading = reading_of(line, request.path);
+    match fault(reading, request.queries()) {
+        Some((index, why)) => put_why(line, index, why),
+        None => line.put("none"),
     }
 }
 
 /// Writes the parameters of a registration.
-fn put_reg_params(page: &mut String, params: &RegParams) -> Result<(), Starved> {
-    put_named(page, "ep", params.name.ep.as_str())?;
-    put_optional(page, "d", text_in(&params.name.sector))?;
-    put_number(page, "lt", u64::from(params.lt))?;
-    put_optional(page, "base", text_in(&params.base))?;
-    put_pairs(page, params.attrs.as_slice())
+fn put_reg_params(line: &mut Line<'_>, params: &RegParams) {
+    put_named(line, "ep", params.name.ep.as_str());
+    put_optional(line, "d", text_in(&params.name.sector));
+    put_number(line, "lt", u64::from(params.lt));
+    put_optional(line, "base", text_in(&params.base));
+    put_pairs(line, params.attrs.as_slice());
 }
 
 /// Writes the result of reading the options of a registration.
-fn put_registration(
-    page: &mut String,
-    alloc: Global,
-    request: &Request<'_>,
-) -> Result<(), NoAnswer> {
-    let simple = match request.path {
-        "register" => false,
-        "simple" => true,
-        _ => return Err(NoAnswer::Form),
-    };
-    match reg_params(alloc, request.queries(), simple) {
-        Ok(params) => put_reg_params(page, &params)?,
-        Err(bad) => put_bad(page, bad)?,
+fn put_registration(line: &mut Line<'_>, request: &Request<'_>) {
+    let simple = request.path == "simple";
+    if !simple && request.path != "register" {
+        line.refuse();
     }
-    Ok(())
+    match reg_params(line.alloc, request.queries(), simple) {
+        Ok(params) => put_reg_params(line, &params),
+        Err(bad) => put_bad(line, bad),
+    }
 }
 
 /// Writes the parameters of an update.
-fn put_update_params(page: &mut String, params: &UpdateParams) -> Result<(), Starved> {
+fn put_update_params(line: &mut Line<'_>, params: &UpdateParams) {
     if let Some(seconds) = params.lt {
-        put_number(page, "lt", u64::from(seconds))?;
+        put_number(line, "lt", u64::from(seconds));
     }
-    put_optional(page, "base", text_in(&params.base))?;
-    put_pairs(page, params.attrs.as_slice())
+    put_optional(line, "base", text_in(&params.base));
+    put_pairs(line, params.attrs.as_slice());
 }
 
 /// Writes the result of reading the options of an update.
-fn put_update(page: &mut String, alloc: Global, queries: Listed<'_>) -> Result<(), Starved> {
-    match update_params(alloc, queries) {
-        Ok(params) => put_update_params(page, &params),
-        Err(bad) => put_bad(page, bad),
+fn put_update(line: &mut Line<'_>, request: &Request<'_>) {
+    match update_params(line.alloc, request.queries()) {
+        Ok(params) => put_update_params(line, &params),
+        Err(bad) => put_bad(line, bad),
     }
 }
 
 /// Writes a query.
-fn put_query(page: &mut String, query: &Query) -> Result<(), Starved> {
-    let kind = query.kind;
-    write!(page, "{kind:?}")?;
+fn put_query(line: &mut Line<'_>, query: &Query) {
+    line.put(match query.kind {
+        Kind::Resource => "Resource",
+        Kind::Endpoint => "Endpoint",
+        Kind::Discovery => "Discovery",
+    });
     'criteria: for criterion in query.criteria.as_slice() {
-        put_named(page, criterion.name.as_str(), criterion.pattern.as_str())?;
+        put_named(line, criterion.name.as_str(), criterion.pattern.as_str());
     }
     if let Some(number) = query.page {
-        put_number(page, "page", u64::from(number))?;
+        put_number(line, "page", u64::from(number));
     }
     if let Some(number) = query.count {
-        put_number(page, "count", u64::from(number))?;
+        put_number(line, "count", u64::from(number));
     }
-    Ok(())
 }
 
 /// Writes the result of reading the options of a lookup.
-fn put_lookup(page: &mut String, alloc: Global, request: &Request<'_>) -> Result<(), NoAnswer> {
-    let kind = kind_of(request.path)?;
-    match lookup_query(alloc, kind, request.queries()) {
-        Ok(query) => put_query(page, &query)?,
-        Err(bad) => put_bad(page, bad)?,
+fn put_lookup(line: &mut Line<'_>, request: &Request<'_>) {
+    let kind = kind_of(line, request.path);
+    match lookup_query(line.alloc, kind, request.queries()) {
+        Ok(query) => put_query(line, &query),
+        Err(bad) => put_bad(line, bad),
     }
-    Ok(())
 }
 
-/// Writes the answer of a call. Returns whether the call is one of these.
-pub(crate) fn put_answer(
-    page: &mut String,
-    alloc: Global,
-    call: &str,
-    said: &str,
-) -> Result<bool, NoAnswer> {
-    let request = Request::of(alloc, said)?;
+/// Writes the answer of one of these calls.
+pub(crate) fn put_answer(line: &mut Line<'_>, call: &str) {
+    let request = Request::of(line, line.said);
     match call {
-        "fault" => put_first_fault(page, reading_of(request.path)?, request.queries())?,
-        "reg_params" => put_registration(page, alloc, &request)?,
-        "update_params" => put_update(page, alloc, request.queries())?,
-        "lookup_query" => put_lookup(page, alloc, &request)?,
-        _ => return Ok(false),
+        "fault" => put_first_fault(line, &request),
+        "reg_params" => put_registration(line, &request),
+        "update_params" => put_update(line, &request),
+        _ => put_lookup(line, &request),
     }
-    Ok(true)
 }

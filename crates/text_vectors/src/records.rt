@@ -7,24 +7,7 @@ use crate::requests::Request;
 use link_format::{LinkRef, check, params, value_of};
 use rd_base::{Items, LinkParts, LinksBuilder, Moment, Record, RegParams, Starved, Text};
 use std::alloc::Global;
-use vector_words::{NoAnswer, cut, number_of, octets_of};
-
-/// Adds a link to the builder with its target, its anchor and the attributes that were added
-/// before.
-fn with_target<'a>(
-    builder: LinksBuilder,
-    target: &'a str,
-    anchor: &'a Option<Text>,
-) -> Result<LinksBuilder, Starved> {
-    let anchor = text_in(anchor);
-    let parts = LinkParts {
-        target_ref: "",
-        anchor_ref: None,
-        target,
-        anchor,
-    };
-    builder.with_link(&parts)
-}
+use vector_words::{Line, NoAnswer, cut};
 
 /// Adds a link to the builder, unchanged.
 fn with_link(
@@ -42,45 +25,58 @@ fn with_link(
         }
         builder = builder.with_pair(param.raw, param.name, value.as_str())?;
     }
-    with_target(builder, link.target, &anchor)
+    builder.with_link(&LinkParts {
+        target_ref: "",
+        anchor_ref: None,
+        target: link.target,
+        anchor: text_in(&anchor),
+    })
 }
 
-/// Returns the links of a document, unchanged, or `Form` if it is not a document.
-pub(crate) fn items_of(alloc: Global, said: &str) -> Result<Items, NoAnswer> {
-    let body = octets_of(alloc, said)?;
-    let Ok(links) = check(body.as_slice()) else {
-        return Err(NoAnswer::Form);
-    };
-    let mut builder = LinksBuilder::new(alloc);
-    'links: for link in links {
-        builder = with_link(alloc, builder, &link)?;
+/// Returns the links of a document, unchanged.
+fn built(line: &mut Line<'_>, said: &str) -> Result<Items, Starved> {
+    let body = line.octets(said);
+    let mut builder = LinksBuilder::new(line.alloc);
+    match check(body.as_slice()) {
+        Ok(links) => {
+            'links: for link in links {
+                builder = with_link(line.alloc, builder, &link)?;
+            }
+        }
+        Err(_) => line.refuse(),
     }
-    Ok(builder.build(alloc)?)
+    builder.build(line.alloc)
 }
 
-/// Returns the number of a location, or `Form` if the path is not a location.
-fn number_at(path: &str) -> Result<u64, NoAnswer> {
-    match path.strip_prefix("/rd/") {
-        Some(digits) => number_of(digits, u64::MAX),
-        None => Err(NoAnswer::Form),
+/// Returns the links of a document, unchanged, if there is memory for them.
+pub(crate) fn items_of(line: &mut Line<'_>, said: &str) -> Option<Items> {
+    match built(line, said) {
+        Ok(items) => Some(items),
+        Err(_) => {
+            line.note(NoAnswer::Starved);
+            None
+        }
     }
 }
 
-/// Returns the registration in a text, or `Form` if there is none.
-pub(crate) fn record_of(alloc: Global, said: &str) -> Result<Record, NoAnswer> {
+/// Returns the registration in a text, if there is one.
+pub(crate) fn record_of(line: &mut Line<'_>, said: &str) -> Option<Record> {
     let (word, links) = cut(said);
-    let request = Request::of(alloc, word)?;
-    let number = number_at(request.path)?;
+    let request = Request::of(line, word);
+    let number = request.path.strip_prefix("/rd/").unwrap_or("no location");
+    let number = line.number_in(number, u64::MAX);
+    let items = items_of(line, links)?;
     let RegParams {
         name,
         lt,
         base,
         attrs,
-    } = params_of(alloc, &request)?;
+    } = params_of(line, &request)?;
     let Some(base) = base else {
-        return Err(NoAnswer::Form);
+        line.refuse();
+        return None;
     };
-    Ok(Record {
+    Some(Record {
         number,
         name,
         lt,
@@ -88,6 +84,6 @@ pub(crate) fn record_of(alloc: Global, said: &str) -> Result<Record, NoAnswer> {
         base,
         base_given: true,
         attrs,
-        items: items_of(alloc, links)?,
+        items,
     })
 }

@@ -2,9 +2,8 @@
 //! the options are for. Without a question mark there are no options; after a `?` at the end there
 //! is one empty option.
 
-use rd_base::{Bytes, Pieces, Starved};
-use std::alloc::Global;
-use vector_words::octets_of;
+use rd_base::{Bytes, Pieces};
+use vector_words::{Line, NoAnswer};
 
 /// Query options in a slice, from an index on.
 #[derive(Clone, Copy)]
@@ -41,23 +40,21 @@ pub(crate) struct Request<'a> {
 }
 
 impl<'a> Request<'a> {
-    /// Returns the request of an argument.
-    ///
-    /// # Errors
-    ///
-    /// `Starved` if memory runs out.
-    pub fn of(alloc: Global, word: &'a str) -> Result<Request<'a>, Starved> {
-        let mut options = Vec::new(alloc);
+    /// Reads the request of an argument.
+    pub fn of(line: &mut Line<'_>, word: &'a str) -> Request<'a> {
+        let mut options = Vec::new(line.alloc);
         let Some((path, query)) = word.split_once('?') else {
-            return Ok(Request {
+            return Request {
                 path: word,
                 options,
-            });
+            };
         };
         'options: for option in query.split('&') {
-            options.push(octets_of(alloc, option)?)?;
+            if options.push(line.octets(option)).is_err() {
+                line.note(NoAnswer::Starved);
+            }
         }
-        Ok(Request { path, options })
+        Request { path, options }
     }
 
     /// Returns the options, one after another.

@@ -1,11 +1,8 @@
 //! Numbers and blocks as the values of options, and the blocks of a body.
-ghost use Rattle.std.specs.Prelude.{◌≤◌, length, IfOk};
 
 use block_wise::{Block, block_read, block_size, block_write, slice_of, uint_of, uint_write};
 use message_model::MAX_SZX;
-use rd_base::Bytes;
-use std::alloc::Global;
-use vector_words::{NoAnswer, cut, datagram_of, number_of, octets_of, put_datagram, put_octets};
+use vector_words::Line;
 
 /// The greatest number of a block (RFC 7959 section 2.2).
 const LAST_BLOCK: u64 = 1_048_575;
@@ -13,114 +10,75 @@ const LAST_BLOCK: u64 = 1_048_575;
 /// The greatest number of three octets.
 const LAST_NUMBER: u64 = 16_777_215;
 
-/// Returns a value of at most three octets.
-fn value_of(alloc: Global, said: &str) -> Result<Bytes, NoAnswer>
-    ensures { IfOk result (λ octets. length octets ≤ 3) }
-{
-    let octets = datagram_of(alloc, said)?;
-    if octets.len() > 3 {
-        return Err(NoAnswer::Form);
-    }
-    Ok(octets)
-}
-
 /// Answers `uint HEX`: the number of a value.
-fn uint(alloc: Global, said: &str) -> Result<String, NoAnswer> {
-    let value = value_of(alloc, said)?;
-    let number = uint_of(value.as_slice());
-    Ok(format!(in alloc; "{number}")?)
+pub(crate) fn uint(line: &mut Line<'_>) {
+    let value = line.datagram(line.said);
+    if value.len() <= 3 {
+        line.put_number(u64::from(uint_of(value.as_slice())));
+    } else {
+        line.refuse();
+    }
 }
 
 /// Answers `uint_octets NUMBER`: the value of a number.
-fn uint_octets(alloc: Global, said: &str) -> Result<String, NoAnswer> {
-    let number = number_of(said, LAST_NUMBER)? as u32;
+pub(crate) fn uint_octets(line: &mut Line<'_>) {
     let mut octets = [0u8; 3];
-    let size = uint_write(number, &mut octets);
-    let mut page = String::new(alloc);
-    put_datagram(&mut page, &octets[..size])?;
-    Ok(page)
+    let size = uint_write(line.number(LAST_NUMBER) as u32, &mut octets);
+    line.put_datagram(&octets[..size]);
+}
+
+/// Writes the number of the block in a value, whether more follow, and its exponent.
+fn put_block(line: &mut Line<'_>, block: &Block) {
+    line.put_number(u64::from(block.num));
+    line.put(if block.more { " more " } else { " last " });
+    line.put_number(u64::from(block.szx));
 }
 
 /// Answers `block HEX`: the number of the block in a value, whether more follow, and its exponent.
-fn block(alloc: Global, said: &str) -> Result<String, NoAnswer> {
-    let value = value_of(alloc, said)?;
-    let Ok(block) = block_read(value.as_slice()) else {
-        return Ok(String::from_str(alloc, "reserved exponent")?);
-    };
-    let num = block.num;
-    let more = more_word(block.more);
-    let szx = block.szx;
-    Ok(format!(in alloc; "{num} {more} {szx}")?)
-}
-
-/// Returns the word for whether more blocks follow.
-fn more_word(more: bool) -> &'static str {
-    if more {
-        return "more";
-    }
-    "last"
-}
-
-/// Returns whether a word says that more blocks follow.
-fn is_more(word: &str) -> Result<bool, NoAnswer> {
-    match word {
-        "more" => Ok(true),
-        "last" => Ok(false),
-        _ => Err(NoAnswer::Form),
+pub(crate) fn block(line: &mut Line<'_>) {
+    let value = line.datagram(line.said);
+    if value.len() > 3 {
+        line.refuse();
+    } else if let Ok(block) = block_read(value.as_slice()) {
+        put_block(line, &block);
+    } else {
+        line.put("reserved exponent");
     }
 }
 
 /// Answers `block_octets NUMBER more|last EXPONENT`: the value of a block.
-fn block_octets(alloc: Global, said: &str) -> Result<String, NoAnswer> {
-    let (num, rest) = cut(said);
-    let (more, szx) = cut(rest);
+pub(crate) fn block_octets(line: &mut Line<'_>) {
+    let num = line.number(LAST_BLOCK) as u32;
+    let more = line.word();
+    if more != "more" && more != "last" {
+        line.refuse();
+    }
     let block = Block {
-        num: number_of(num, LAST_BLOCK)? as u32,
-        more: is_more(more)?,
-        szx: number_of(szx, u64::from(MAX_SZX))? as u8,
+        num,
+        more: more == "more",
+        szx: line.number(u64::from(MAX_SZX)) as u8,
     };
     let mut octets = [0u8; 3];
     let size = block_write(&block, &mut octets);
-    let mut page = String::new(alloc);
-    put_datagram(&mut page, &octets[..size])?;
-    Ok(page)
+    line.put_datagram(&octets[..size]);
 }
 
 /// Answers `block_size EXPONENT`: the length of a block in octets.
-fn size(alloc: Global, said: &str) -> Result<String, NoAnswer> {
-    let szx = number_of(said, u64::from(MAX_SZX))? as u8;
-    let size = block_size(szx);
-    Ok(format!(in alloc; "{size}")?)
+pub(crate) fn size(line: &mut Line<'_>) {
+    let szx = line.number(u64::from(MAX_SZX)) as u8;
+    line.put_number(block_size(szx) as u64);
 }
 
 /// Answers `slice NUMBER EXPONENT BODY`: the block of a body, and whether more follow.
-fn slice(alloc: Global, said: &str) -> Result<String, NoAnswer> {
-    let (num, rest) = cut(said);
-    let (szx, body) = cut(rest);
-    let num = number_of(num, LAST_BLOCK)? as u32;
-    let szx = number_of(szx, u64::from(MAX_SZX))? as u8;
-    let body = octets_of(alloc, body)?;
-    let mut page = String::new(alloc);
-    let Some((piece, more)) = slice_of(body.as_slice(), num, szx) else {
-        page.push_str("none")?;
-        return Ok(page);
-    };
-    page.push_str(more_word(more))?;
-    page.push_str(" ")?;
-    put_octets(&mut page, piece)?;
-    Ok(page)
-}
-
-/// Answers a call about numbers and blocks.
-pub(crate) fn answer(alloc: Global, call: &str, said: &str) -> Result<Option<String>, NoAnswer> {
-    let answer = match call {
-        "uint" => uint(alloc, said)?,
-        "uint_octets" => uint_octets(alloc, said)?,
-        "block" => block(alloc, said)?,
-        "block_octets" => block_octets(alloc, said)?,
-        "block_size" => size(alloc, said)?,
-        "slice" => slice(alloc, said)?,
-        _ => return Ok(None),
-    };
-    Ok(Some(answer))
+pub(crate) fn slice(line: &mut Line<'_>) {
+    let num = line.number(LAST_BLOCK) as u32;
+    let szx = line.number(u64::from(MAX_SZX)) as u8;
+    let body = line.octets(line.said);
+    match slice_of(body.as_slice(), num, szx) {
+        Some((piece, more)) => {
+            line.put(if more { "more " } else { "last " });
+            line.put_octets(piece);
+        }
+        None => line.put("none"),
+    }
 }

@@ -3,7 +3,7 @@ ghost use Rattle.std.specs.Prelude.{◌≡◌};
 ghost use Rattle.message_model.specs.Codes as codes_of;
 
 use coap_message::{Kind4, Role};
-use vector_words::{NoAnswer, number_of};
+use vector_words::Line;
 
 /// Returns the name of a type (RFC 7252 section 1.2).
 pub(crate) fn kind_name(kind: Kind4) -> &'static str {
@@ -38,14 +38,13 @@ pub(crate) fn role_name(role: Role) -> &'static str {
     }
 }
 
-/// Returns the code that is written as its class and its detail, such as 2.05.
-pub(crate) fn code_of(word: &str) -> Result<u8, NoAnswer> {
-    let Some((class, detail)) = word.split_once('.') else {
-        return Err(NoAnswer::Form);
-    };
-    let class = number_of(class, 7)?;
-    let detail = number_of(detail, 31)?;
-    Ok((class * 32 + detail) as u8)
+/// Reads a code that is written as its class and its detail, such as 2.05.
+pub(crate) fn code_of(line: &mut Line<'_>) -> u8 {
+    let word = line.word();
+    let (class, detail) = word.split_once('.').unwrap_or((word, ""));
+    let class = line.number_in(class, 7);
+    let detail = line.number_in(detail, 31);
+    (class * 32 + detail) as u8
 }
 
 /// Returns whether the class of a code is reserved (RFC 7252 section 3).

@@ -4,25 +4,11 @@ ghost use Rattle.message_model.specs.Codes as codes_of;
 ghost use Rattle.message_model.specs.Message.{end_number};
 
 use crate::kinds::{code_of, is_reserved, kind_of};
-use coap_message::{Kind4, TokenRef, Writer};
+use coap_message::{Kind4, TokenRef, TooLong, Writer};
 use message_model::codes::EMPTY;
 use message_model::{MAX_OPTION_NUMBER, MAX_OPTION_VALUE, MAX_TOKEN};
 use rd_base::Bytes;
-use std::alloc::Global;
-use vector_words::{NoAnswer, cut, datagram_of, number_of, octets_of};
-
-/// The beginning of a message.
-#[derive(Drop)]
-struct Head {
-    /// The type.
-    kind: Kind4,
-    /// The code, class.detail in one octet.
-    code: u8,
-    /// The Message ID.
-    mid: u16,
-    /// The token.
-    token: Bytes,
-}
+use vector_words::{Line, NoAnswer, cut};
 
 /// A message that is being written.
 #[derive(Drop)]
@@ -43,168 +29,178 @@ enum Step {
     Done,
     /// The message would be longer than 1,280 octets.
     TooLong,
-}
-
-/// Returns the Message ID of two octets in hexadecimal.
-fn mid_of(alloc: Global, word: &str) -> Result<u16, NoAnswer> {
-    let octets = datagram_of(alloc, word)?;
-    match octets.as_slice() {
-        [high, low] => Ok(u16::from_be_bytes([*high, *low])),
-        _ => Err(NoAnswer::Form),
-    }
-}
-
-/// Returns the text after a mark, or `Form` if it does not begin with the mark.
-fn after<'a>(mark: &str, word: &'a str) -> Result<&'a str, NoAnswer> {
-    match word.strip_prefix(mark) {
-        Some(rest) => Ok(rest),
-        None => Err(NoAnswer::Form),
-    }
-}
-
-/// Returns the head of a message, from the fields after its type.
-fn head_of(
-    alloc: Global,
-    kind: Kind4,
-    code: &str,
-    mid: &str,
-    token: &str,
-) -> Result<Head, NoAnswer> {
-    Ok(Head {
-        kind,
-        code: code_of(code)?,
-        mid: mid_of(alloc, after("m=", mid)?)?,
-        token: datagram_of(alloc, after("t=", token)?)?,
-    })
+    /// Such a message cannot be written.
+    Refused,
 }
 
 impl Script {
-    /// Begins a message that is not empty, with neither options nor payload.
-    fn begin(head: &Head) -> Result<Script, NoAnswer> {
-        let octets = head.token.as_slice();
+    /// Begins a message that is not empty, with neither options nor payload. Returns `None` if such
+    /// a message cannot be written.
+    fn begin(kind: Kind4, code: u8, mid: u16, octets: &[u8]) -> Option<Script> {
         if octets.len() > MAX_TOKEN {
-            return Err(NoAnswer::Form);
+            return None;
         }
-        if is_reserved(head.code) {
-            return Err(NoAnswer::Form);
+        if is_reserved(code) {
+            return None;
         }
-        if head.code == EMPTY {
-            return Err(NoAnswer::Form);
+        if code == EMPTY {
+            return None;
         }
-        Ok(Script {
-            writer: Writer::start(head.kind, head.code, head.mid, TokenRef { octets }),
+        Some(Script {
+            writer: Writer::start(kind, code, mid, TokenRef { octets }),
             last: 0,
         })
     }
 
     /// Appends an option.
-    fn put(&mut self, number: u32, value: &[u8]) -> Result<Step, NoAnswer>
+    fn put(&mut self, number: u32, value: &[u8]) -> Step
         requires { number ≤ 65535 }
     {
         if number < self.last {
-            return Err(NoAnswer::Form);
+            return Step::Refused;
         }
         if value.len() > MAX_OPTION_VALUE {
-            return Err(NoAnswer::Form);
+            return Step::Refused;
         }
         let Ok(()) = self.writer.option(number, value) else {
-            return Ok(Step::TooLong);
+            return Step::TooLong;
         };
         self.last = number;
-        Ok(Step::Done)
+        Step::Done
     }
 
     /// Appends the option in brackets, given without the opening bracket.
-    fn put_said(&mut self, alloc: Global, said: &str) -> Result<Step, NoAnswer> {
+    fn put_said(&mut self, line: &mut Line<'_>, said: &str) -> Step {
         let Some(said) = said.trim_end().strip_suffix(']') else {
-            return Err(NoAnswer::Form);
+            return Step::Refused;
         };
         let (number, value) = cut(said);
-        let number = number_of(number, u64::from(MAX_OPTION_NUMBER))? as u32;
-        let value = octets_of(alloc, value)?;
+        let number = line.number_in(number, u64::from(MAX_OPTION_NUMBER)) as u32;
+        let value = line.octets(value);
         self.put(number, value.as_slice())
     }
 
     /// Appends the options, each in brackets.
-    fn put_all(&mut self, alloc: Global, said: &str) -> Result<Step, NoAnswer> {
+    fn put_all(&mut self, line: &mut Line<'_>, said: &str) -> Step {
         if said.is_empty() {
-            return Ok(Step::Done);
+            return Step::Done;
         }
-        'options: for option in after("[", said)?.split('[') {
-            if self.put_said(alloc, option)? == Step::TooLong {
-                return Ok(Step::TooLong);
+        let Some(said) = said.strip_prefix('[') else {
+            return Step::Refused;
+        };
+        let mut step = Step::Done;
+        'options: for option in said.split('[') {
+            if step == Step::Done {
+                step = self.put_said(line, option);
             }
         }
-        Ok(Step::Done)
+        step
     }
+}
 
-    /// Returns the datagram of the message with this payload, or `None` if it is too long.
-    fn finish(self, alloc: Global, payload: &[u8]) -> Result<Option<Bytes>, NoAnswer> {
-        let Script {
-            mut writer,
-            last: _,
-        } = self;
-        match writer.finish(payload) {
-            Ok(datagram) => Ok(Some(Bytes::copy_of(alloc, datagram)?)),
-            Err(_) => Ok(None),
+/// The beginning of a message.
+#[derive(Drop)]
+struct Head {
+    /// The type.
+    kind: Kind4,
+    /// The code, class.detail in one octet.
+    code: u8,
+    /// The Message ID.
+    mid: u16,
+    /// The token.
+    token: Bytes,
+}
+
+/// Reads a word: a mark, and octets in hexadecimal.
+fn marked(line: &mut Line<'_>, mark: &str) -> Bytes {
+    match line.word().strip_prefix(mark) {
+        Some(word) => line.datagram(word),
+        None => {
+            line.refuse();
+            Bytes::new(line.alloc)
         }
     }
 }
 
-/// Returns the datagram of an empty message (RFC 7252 section 4.1).
-fn written_empty(alloc: Global, kind: Kind4, mid: u16) -> Result<Option<Bytes>, NoAnswer> {
-    let mut writer = Writer::start(kind, 0, mid, TokenRef { octets: b"" });
-    match writer.finish(b"") {
-        Ok(datagram) => Ok(Some(Bytes::copy_of(alloc, datagram)?)),
-        Err(_) => Ok(None),
+/// Reads the head of a message.
+fn head_of(line: &mut Line<'_>) -> Head {
+    let kind = kind_of(line.word());
+    let code = code_of(line);
+    let mid = marked(line, "m=");
+    let token = marked(line, "t=");
+    if kind.is_none() || mid.len() != 2 {
+        line.refuse();
     }
-}
-
-/// Returns the datagram of a message with this head, these options and this payload, or `None` if
-/// it is too long.
-fn written_parts(
-    alloc: Global,
-    head: &Head,
-    options: &str,
-    payload: &str,
-) -> Result<Option<Bytes>, NoAnswer> {
-    let payload = octets_of(alloc, payload)?;
-    if head.code == EMPTY && head.token.is_empty() && options.is_empty() && payload.is_empty() {
-        return written_empty(alloc, head.kind, head.mid);
-    }
-    let mut script = Script::begin(head)?;
-    if script.put_all(alloc, options)? == Step::TooLong {
-        return Ok(None);
-    }
-    script.finish(alloc, payload.as_slice())
-}
-
-/// Returns the datagram of a message written as text, or `None` if it is too long. Returns `Form`
-/// if the text does not have that form, or such a message cannot be written.
-pub(crate) fn written(alloc: Global, said: &str) -> Result<Option<Bytes>, NoAnswer> {
-    let (front, payload) = match said.split_once(" | ") {
-        Some(parts) => parts,
-        None => (said, "-"),
+    let mid = match mid.as_slice() {
+        [high, low] => u16::from_be_bytes([*high, *low]),
+        _ => 0,
     };
-    let (kind, rest) = cut(front);
-    let Some(kind) = kind_of(kind) else {
-        return Err(NoAnswer::Form);
-    };
-    let (code, rest) = cut(rest);
-    let (mid, rest) = cut(rest);
-    let (token, options) = cut(rest);
-    let head = head_of(alloc, kind, code, mid, token)?;
-    written_parts(alloc, &head, options, payload)
+    Head {
+        kind: kind.unwrap_or(Kind4::Con),
+        code,
+        mid,
+        token,
+    }
 }
 
-/// Returns the datagram that is given in hexadecimal, or that of a message written as text.
-pub(crate) fn message_of(alloc: Global, said: &str) -> Result<Bytes, NoAnswer> {
-    let (word, _) = cut(said);
+/// Returns a copy of a datagram that is written, or `None` if it is too long.
+fn copy_of(line: &mut Line<'_>, written: Result<&[u8], TooLong>) -> Option<Bytes> {
+    match Bytes::copy_of(line.alloc, written.ok()?) {
+        Ok(datagram) => Some(datagram),
+        Err(_) => {
+            line.note(NoAnswer::Starved);
+            None
+        }
+    }
+}
+
+/// Returns the datagram of a message that is not empty, with these options and this payload, or
+/// `None` if it is too long or cannot be written.
+fn written_parts(line: &mut Line<'_>, head: &Head, options: &str, payload: &[u8]) -> Option<Bytes> {
+    let token = head.token.as_slice();
+    let Some(mut script) = Script::begin(head.kind, head.code, head.mid, token) else {
+        line.refuse();
+        return None;
+    };
+    match script.put_all(line, options) {
+        Step::Done => {
+            let Script { mut writer, .. } = script;
+            copy_of(line, writer.finish(payload))
+        }
+        Step::TooLong => None,
+        Step::Refused => {
+            line.refuse();
+            None
+        }
+    }
+}
+
+/// Reads a message written as text. Returns its datagram, or `None` if it is too long or cannot be
+/// written.
+pub(crate) fn written(line: &mut Line<'_>) -> Option<Bytes> {
+    let (front, payload) = line.said.split_once(" | ").unwrap_or((line.said, "-"));
+    let payload = line.octets(payload);
+    line.said = front;
+    let head = head_of(line);
+    let options = line.said;
+    if head.code != EMPTY || !head.token.is_empty() || !options.is_empty() || !payload.is_empty() {
+        return written_parts(line, &head, options, payload.as_slice());
+    }
+    let mut writer = Writer::start(head.kind, 0, head.mid, TokenRef { octets: b"" });
+    copy_of(line, writer.finish(b""))
+}
+
+/// Reads a datagram that is given in hexadecimal, or a message written as text.
+pub(crate) fn message_of(line: &mut Line<'_>) -> Bytes {
+    let (word, _) = cut(line.said);
     if kind_of(word).is_none() {
-        return datagram_of(alloc, said);
+        return line.datagram(line.said);
     }
-    match written(alloc, said)? {
-        Some(datagram) => Ok(datagram),
-        None => Err(NoAnswer::Form),
+    match written(line) {
+        Some(datagram) => datagram,
+        None => {
+            line.refuse();
+            Bytes::new(line.alloc)
+        }
     }
 }

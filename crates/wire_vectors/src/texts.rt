@@ -1,74 +1,62 @@
 //! Owned texts and octets, and moments.
 
-use rd_base::{Moment, Text};
-use std::alloc::Global;
+use rd_base::{Moment, Starved, Text};
 use std::cmp::Ordering;
-use vector_words::{NoAnswer, cut, datagram_of, number_of, put_datagram, shown, text_of};
+use vector_words::Line;
 
 /// Answers `text TEXT MORE`: a copy of a text, with another one appended.
-fn text(alloc: Global, said: &str) -> Result<String, NoAnswer> {
-    let (front, more) = cut(said);
-    let mut text = Text::copy_of(alloc, text_of(alloc, front)?.as_str())?;
-    text.append(alloc, text_of(alloc, more)?.as_str())?;
-    Ok(shown(alloc, text.as_bytes())?)
+pub(crate) fn text(line: &mut Line<'_>) -> Result<(), Starved> {
+    let front = line.word();
+    let front = line.text(front);
+    let more = line.text(line.said);
+    let mut text = Text::copy_of(line.alloc, front.as_str())?;
+    text.append(line.alloc, more.as_str())?;
+    line.put_octets(text.as_bytes());
+    Ok(())
 }
 
 /// Answers `character TEXT CHARACTERS`: a copy of a text, with characters appended one by one.
-fn character(alloc: Global, said: &str) -> Result<String, NoAnswer> {
-    let (front, more) = cut(said);
-    let mut text = Text::copy_of(alloc, text_of(alloc, front)?.as_str())?;
-    'characters: for character in text_of(alloc, more)?.as_str().chars() {
-        text.push(alloc, character)?;
+pub(crate) fn character(line: &mut Line<'_>) -> Result<(), Starved> {
+    let front = line.word();
+    let front = line.text(front);
+    let more = line.text(line.said);
+    let mut text = Text::copy_of(line.alloc, front.as_str())?;
+    'characters: for character in more.as_str().chars() {
+        text.push(line.alloc, character)?;
     }
-    Ok(shown(alloc, text.clone()?.as_bytes())?)
+    line.put_octets(text.clone()?.as_bytes());
+    Ok(())
 }
 
-/// Returns the name of an order.
-pub(crate) fn order_word(order: Ordering) -> &'static str {
-    match order {
+/// Writes the name of an order.
+pub(crate) fn put_order(line: &mut Line<'_>, order: Ordering) {
+    line.put(match order {
         Ordering::Less => "less",
         Ordering::Equal => "equal",
         Ordering::Greater => "greater",
-    }
+    });
 }
 
 /// Answers `text_order TEXT TEXT`: the order of two texts.
-fn text_order(alloc: Global, said: &str) -> Result<String, NoAnswer> {
-    let (one, other) = cut(said);
-    let one = Text::of(text_of(alloc, one)?);
-    let other = Text::of(text_of(alloc, other)?);
-    Ok(String::from_str(alloc, order_word(one.cmp(&other)))?)
+pub(crate) fn text_order(line: &mut Line<'_>) {
+    let one = line.word();
+    let one = Text::of(line.text(one));
+    let other = Text::of(line.text(line.said));
+    put_order(line, one.cmp(&other));
 }
 
 /// Answers `truncate NUMBER HEX`: the first octets.
-fn truncate(alloc: Global, said: &str) -> Result<String, NoAnswer> {
-    let (count, octets) = cut(said);
-    let count = number_of(count, 65_535)? as usize;
-    let mut octets = datagram_of(alloc, octets)?;
+pub(crate) fn truncate(line: &mut Line<'_>) {
+    let count = line.number(65_535) as usize;
+    let mut octets = line.datagram(line.said);
     octets.truncate(count);
-    let mut page = String::new(alloc);
-    put_datagram(&mut page, octets.as_slice())?;
-    Ok(page)
+    line.put_datagram(octets.as_slice());
 }
 
 /// Answers `later MOMENT MOMENT`: the later of two moments.
-fn later(alloc: Global, said: &str) -> Result<String, NoAnswer> {
-    let (one, other) = cut(said);
-    let one = Moment(number_of(one, u64::MAX)?);
-    let other = Moment(number_of(other, u64::MAX)?);
+pub(crate) fn later(line: &mut Line<'_>) {
+    let one = Moment(line.number(u64::MAX));
+    let other = Moment(line.number(u64::MAX));
     let Moment(later) = one.later(other);
-    Ok(format!(in alloc; "{later}")?)
-}
-
-/// Answers a call about texts, octets and moments.
-pub(crate) fn answer(alloc: Global, call: &str, said: &str) -> Result<Option<String>, NoAnswer> {
-    let answer = match call {
-        "text" => text(alloc, said)?,
-        "character" => character(alloc, said)?,
-        "text_order" => text_order(alloc, said)?,
-        "truncate" => truncate(alloc, said)?,
-        "later" => later(alloc, said)?,
-        _ => return Ok(None),
-    };
-    Ok(Some(answer))
+    line.put_number(later);
 }

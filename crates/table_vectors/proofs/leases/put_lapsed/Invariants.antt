@@ -1,4 +1,4 @@
-use Rattle.table_vectors.proofs.leases.lapsed_at.Given as goal
+use Rattle.table_vectors.proofs.leases.put_lapsed.Given as goal
 
 abbrev pub ghosts-lapsed_numbers : goal.ghosts-lapsed_numbers
 ghosts-lapsed_numbers a = record { name = a.blank.name; parts = a.blank.parts }
