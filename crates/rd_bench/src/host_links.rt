@@ -167,8 +167,8 @@ fn measure_guarded<R: Wait>(
     print_looks(rt, name, &mut link)
 }
 
-/// Measures lookups by a link alone, by the link of `rd_host` with guard and counters off, and by its
-/// link by default.
+/// Measures lookups by a link alone, by the link of `rd_host` with guard and counters off, and by
+/// its link by default.
 ///
 /// # Errors
 ///
