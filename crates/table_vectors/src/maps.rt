@@ -238,11 +238,16 @@ impl<V: MapValue> Maps<V> {
         Ok(())
     }
 
+    /// Writes the pairs from a key on, or how many there are and their checksum.
+    fn read_pairs(&self, line: &mut Line<'_>, verb: &str) {
+        put_pairs::<Brand, V>(Blank::new(1), line, &self.versions.now, verb);
+    }
+
     /// Writes what a call reads from the map.
     fn read(&self, line: &mut Line<'_>, verb: &str) {
         let map = &self.versions.now;
         match verb {
-            "range" | "sum" => put_pairs::<Brand, V>(Blank::new(1), line, map, verb),
+            "range" | "sum" => self.read_pairs(line, verb),
             "get" => {
                 let key = line.number(u64::MAX);
                 put_value(line, map, key);
