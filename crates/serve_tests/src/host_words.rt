@@ -1,10 +1,9 @@
 //! What arguments of `rd_host` ask for.
 use crate::words::words_of;
-use hosting::{HostFault, HostPlan, Wanted, host_words};
-use rd_base::peer_text;
+use hosting::{HostFault, HostPlan, Network, Wanted, host_words};
+use rd_base::{Peer, Starved, peer_text};
 use std::alloc::Global;
 use std::fmt::Write;
-use std::test::Fail;
 
 /// What the arguments after the bar ask for: workers, receives, addresses, and any other options;
 /// or `refused`.
@@ -83,8 +82,41 @@ refused | --help --help
 refused | --version --listen=127.0.0.1:1
 refused | 127.0.0.1:1";
 
-/// Returns a plan as a line of the table has it.
-fn told(alloc: Global, plan: &HostPlan) -> Result<String, Fail> {
+/// Writes addresses, with a label before each.
+fn put_peers(text: &mut String, alloc: Global, label: &str, peers: &[Peer]) -> Result<(), Starved> {
+    for peer in peers {
+        let address = peer_text(alloc, peer)?;
+        write!(text, "{label}{}", address.as_str())?;
+    }
+    Ok(())
+}
+
+/// Writes the prefixes' lengths of networks, with a label before each.
+fn put_networks(text: &mut String, label: &str, networks: &[Network]) -> Result<(), Starved> {
+    for network in networks {
+        write!(text, "{label}{}", network.bits)?;
+    }
+    Ok(())
+}
+
+/// Writes a number with a label before it, unless it is 0.
+fn put_number(text: &mut String, label: &str, number: u64) -> Result<(), Starved> {
+    if number > 0 {
+        write!(text, "{label}{number}")?;
+    }
+    Ok(())
+}
+
+/// Writes the limits of each source and of a lookup, unless they are the default ones.
+fn put_limits(text: &mut String, share: u16, criteria: u16) -> Result<(), Starved> {
+    if (share, criteria) != (1024, 16) {
+        write!(text, " share {share} criteria {criteria}")?;
+    }
+    Ok(())
+}
+
+/// Writes a plan as a line of the table has it.
+fn put_plan(text: &mut String, alloc: Global, plan: &HostPlan) -> Result<(), Starved> {
     let HostPlan {
         listen,
         workers,
@@ -99,56 +131,51 @@ fn told(alloc: Global, plan: &HostPlan) -> Result<String, Fail> {
         lookups,
         quiet,
     } = plan;
-    let mut text = format!(in alloc; "{workers} {turns}")?;
-    for address in listen.as_slice() {
-        let address = peer_text(alloc, address)?;
-        write!(text, " {}", address.as_str())?;
-    }
-    for address in tcp.as_slice() {
-        let address = peer_text(alloc, address)?;
-        write!(text, " tcp {}", address.as_str())?;
-    }
-    if *connections > 0 {
-        write!(text, " connections {connections}")?;
-    }
+    write!(text, "{workers} {turns}")?;
+    put_peers(text, alloc, " ", listen.as_slice())?;
+    put_peers(text, alloc, " tcp ", tcp.as_slice())?;
+    put_number(text, " connections ", u64::from(*connections))?;
     if let Some(begin) = begin {
         write!(text, " above {begin}")?;
     }
-    for network in allow.as_slice() {
-        write!(text, " allow {}", network.bits)?;
-    }
-    for network in trust.as_slice() {
-        write!(text, " trust {}", network.bits)?;
-    }
-    if (*share, *criteria) != (1024, 16) {
-        write!(text, " share {share} criteria {criteria}")?;
-    }
-    if *lookups > 0 {
-        write!(text, " lookups {lookups}")?;
-    }
-    if *quiet {
-        text.push_str(" quiet")?;
-    }
-    Ok(text)
+    put_networks(text, " allow ", allow.as_slice())?;
+    put_networks(text, " trust ", trust.as_slice())?;
+    put_limits(text, *share, *criteria)?;
+    put_number(text, " lookups ", u64::from(*lookups))?;
+    Ok(text.push_str(if *quiet { " quiet" } else { "" })?)
 }
 
-/// Returns what the arguments of a line ask for.
-fn answer(alloc: Global, line: &str) -> Result<String, Fail> {
+/// Writes what arguments ask for.
+fn put_wanted(
+    text: &mut String,
+    alloc: Global,
+    wanted: &Result<Wanted, HostFault>,
+) -> Result<(), Starved> {
+    let word = match wanted {
+        Ok(Wanted::Serve(plan)) => return put_plan(text, alloc, plan),
+        Ok(Wanted::Help) => "help",
+        Ok(Wanted::Version) => "version",
+        Err(HostFault::Usage) => "refused",
+        Err(HostFault::Starved) => "out of memory",
+    };
+    Ok(text.push_str(word)?)
+}
+
+/// Writes what the arguments of a line ask for.
+fn put_answer(text: &mut String, alloc: Global, line: &str) -> Result<(), Starved> {
     let words = words_of(alloc, line)?;
-    Ok(match host_words(alloc, words.as_slice()) {
-        Ok(Wanted::Serve(plan)) => told(alloc, &plan)?,
-        Ok(Wanted::Help) => String::from_str(alloc, "help")?,
-        Ok(Wanted::Version) => String::from_str(alloc, "version")?,
-        Err(HostFault::Usage) => String::from_str(alloc, "refused")?,
-        Err(HostFault::Starved) => String::from_str(alloc, "out of memory")?,
-    })
+    let wanted = host_words(alloc, words.as_slice());
+    put_wanted(text, alloc, &wanted)
 }
 
 #[test]
-fn words_name_addresses(rt: HostRuntime) -> Result<(), Fail> {
+fn words_name_addresses(rt: HostRuntime) -> Result<(), Starved> {
+    let mut text = String::new(rt.alloc());
     for line in WORDS.lines() {
         let (wanted, words) = line.split_once(" |").unwrap_or((line, ""));
-        assert_eq!(rt; answer(rt.alloc(), words)?.as_str(), wanted, "{line}");
+        text.clear();
+        put_answer(&mut text, rt.alloc(), words)?;
+        assert_eq!(rt; text.as_str(), wanted, "{line}");
     }
     Ok(())
 }

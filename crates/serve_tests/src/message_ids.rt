@@ -2,7 +2,7 @@
 
 use rd_desk::Mids;
 
-/// A worker has 4,096 Message IDs, and reuses them in the same order.
+/// Asserts that a worker has 4,096 Message IDs, and reuses them in the same order.
 #[test]
 fn message_ids_come_again(rt: HostRuntime) {
     let mut mids = Mids::of(15);

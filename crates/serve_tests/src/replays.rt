@@ -1,8 +1,7 @@
 //! Replays in which one call after another fails: of the source, the output, or the error sink.
-
-use rd_base::{Bytes, MemSink, MemSource, Starved, SureSink};
+use crate::requests::sink_of;
+use rd_base::{Bytes, MemSource, Sink, Starved, SureSink};
 use std::alloc::Global;
-use std::test::Fail;
 use trace_replay::{LineBad, Reason, Status, replay};
 
 /// A line that does nothing.
@@ -39,101 +38,123 @@ const OBSERVED: &[u8] = b"\
     go 0 700010\n\
     tick 0 700020\n";
 
-/// Replays a line this many times, with calls of the source or of the output that fail. Returns the
-/// status and the number of octets written.
-fn ends_with(
+/// Replays a trace into `out` and `err`. The calls of its source with these numbers fail.
+fn replayed<O: Sink, E: Sink>(
     alloc: Global,
-    line: &[u8],
-    times: u32,
+    trace: &[u8],
     unread: &[u8],
-    unwritten: &[u8],
-) -> Result<(Status, usize), Starved> {
-    let mut trace = Bytes::new(alloc);
-    for _ in 0..times {
-        trace.append(line)?;
-    }
+    out: &mut O,
+    err: &mut E,
+) -> Result<Status, Starved> {
+    let trace = Bytes::copy_of(alloc, trace)?;
     let mut source = MemSource::of(trace, Bytes::copy_of(alloc, unread)?);
-    let mut out = MemSink::of(alloc, Bytes::copy_of(alloc, unwritten)?);
-    let status = replay(alloc, &[], &mut source, &mut out, &mut SureSink::new());
-    Ok((status, out.as_slice().len()))
+    Ok(replay(alloc, &[], &mut source, out, err))
 }
 
-/// 20 calls read 77,000 octets. 20 calls write 19 lines of 31 octets, and the last line.
-#[test]
-fn each_call_may_fail(rt: HostRuntime) -> Result<(), Fail> {
-    let alloc = rt.alloc();
-    for call in 0..20 {
-        let unread = ends_with(alloc, GO, 11_000, &[call], b"")?;
-        assert_eq!(rt; unread, (Status::ReadFault, 0));
-        let unwritten = ends_with(alloc, PING, 19, b"", &[call])?;
-        assert_eq!(rt; unwritten, (Status::WriteFault, usize::from(call) * 31));
+/// Replays a trace, with calls of the source and of the output that fail. Returns the status, and
+/// puts what is written into `written`.
+fn writes(
+    alloc: Global,
+    trace: &[u8],
+    unread: &[u8],
+    unwritten: &[u8],
+    written: &mut Vec<u8>,
+) -> Result<Status, Starved> {
+    let mut out = sink_of(alloc, unwritten)?;
+    let status = replayed(alloc, trace, unread, &mut out, &mut SureSink::new())?;
+    written.clear();
+    written.extend_from_slice(out.as_slice())?;
+    Ok(status)
+}
+
+/// Returns a line this many times.
+fn repeated(alloc: Global, line: &[u8], times: u32) -> Result<Vec<u8>, Starved> {
+    let mut trace = Vec::new(alloc);
+    for _ in 0..times {
+        trace.extend_from_slice(line)?;
     }
-    assert_eq!(rt;
-        ends_with(alloc, GO, 11_000, &[20], b"")?,
-        (Status::Done, 10)
-    );
-    assert_eq!(rt;
-        ends_with(alloc, PING, 19, b"", &[20])?,
-        (Status::Done, 599)
-    );
+    Ok(trace)
+}
+
+/// Replays the two traces, with a read of the first and a write of the second that fail. Returns
+/// each status, and the number of octets that are written.
+fn ends_with(
+    alloc: Global,
+    read: &[u8],
+    written: &[u8],
+    call: u8,
+) -> Result<[(Status, usize); 2], Starved> {
+    let mut page = Vec::new(alloc);
+    let unread = writes(alloc, read, &[call], b"", &mut page)?;
+    let unread = (unread, page.len());
+    let unwritten = writes(alloc, written, b"", &[call], &mut page)?;
+    Ok([unread, (unwritten, page.len())])
+}
+
+/// Asserts how a replay ends at each call that fails. 20 calls read 77,000 octets. 20 calls write
+/// 19 lines of 31 octets, and the last line.
+#[test]
+fn each_call_may_fail(rt: HostRuntime) -> Result<(), Starved> {
+    let alloc = rt.alloc();
+    let read = repeated(alloc, GO, 11_000)?;
+    let written = repeated(alloc, PING, 19)?;
+    for call in 0..=20 {
+        let wanted = if call < 20 {
+            let octets = usize::from(call) * 31;
+            [(Status::ReadFault, 0), (Status::WriteFault, octets)]
+        } else {
+            [(Status::Done, 10), (Status::Done, 599)]
+        };
+        let ends = ends_with(alloc, read.as_slice(), written.as_slice(), call)?;
+        assert_eq!(rt; ends, wanted);
+    }
     Ok(())
 }
 
-/// Replays the trace of an observer, with one call of the source or of the output that fails.
-/// Returns the status and what is written.
-fn observed_with(
-    alloc: Global,
-    unread: &[u8],
-    unwritten: &[u8],
-) -> Result<(Status, Bytes), Starved> {
-    let trace = Bytes::copy_of(alloc, OBSERVED)?;
-    let mut source = MemSource::of(trace, Bytes::copy_of(alloc, unread)?);
-    let mut out = MemSink::of(alloc, Bytes::copy_of(alloc, unwritten)?);
-    let status = replay(alloc, &[], &mut source, &mut out, &mut SureSink::new());
-    Ok((status, Bytes::copy_of(alloc, out.as_slice())?))
-}
-
-/// Replays the trace of an observer with one call that fails. Returns the status, and whether what
-/// is written is a prefix of the whole, and all of it if nothing failed.
-fn ending_with(
+/// Replays the trace of an observer with one call that fails. Returns whether it ends with a
+/// status, and what is written is a prefix of the whole, and all of it if nothing failed.
+fn begins_whole(
     alloc: Global,
     whole: &[u8],
     unread: &[u8],
     unwritten: &[u8],
-) -> Result<(Status, bool), Starved> {
-    let (status, written) = observed_with(alloc, unread, unwritten)?;
-    let is_whole = status != Status::Done || written.len() == whole.len();
-    Ok((status, whole.starts_with(written.as_slice()) && is_whole))
+    wanted: Status,
+) -> Result<bool, Starved> {
+    let mut page = Vec::new(alloc);
+    let status = writes(alloc, OBSERVED, unread, unwritten, &mut page)?;
+    let is_whole = status != Status::Done || page.len() == whole.len();
+    Ok(status == wanted && whole.starts_with(page.as_slice()) && is_whole)
 }
 
-/// One call reads the trace and one its end. Each of the seven responses and notifications is
-/// written by a call of its own, as is the last line. A later call is never made.
+/// Returns this status if a call is one of the first ones, and `Done` otherwise.
+fn fault_before(call: u8, calls: u8, fault: Status) -> Status {
+    if call < calls { fault } else { Status::Done }
+}
+
+/// Asserts that a prefix of the whole is written. One call reads the trace and one its end. Each of
+/// the seven responses and notifications is written by a call of its own, as is the last line. A
+/// later call is never made.
 #[test]
-fn what_was_written_is_a_beginning(rt: HostRuntime) -> Result<(), Fail> {
+fn what_was_written_is_a_beginning(rt: HostRuntime) -> Result<(), Starved> {
     let alloc = rt.alloc();
-    let (status, whole) = observed_with(alloc, b"", b"")?;
+    let mut whole = Vec::new(alloc);
+    let status = writes(alloc, OBSERVED, b"", b"", &mut whole)?;
     assert_eq!(rt;
-        (status, whole.as_slice().ends_with(b"end 4 1 1\n")),
+        (status, whole.ends_with(b"end 4 1 1\n")),
         (Status::Done, true)
     );
     for call in 0..21 {
-        let unread = if call < 2 {
-            Status::ReadFault
-        } else {
-            Status::Done
-        };
-        let unwritten = if call < 8 {
-            Status::WriteFault
-        } else {
-            Status::Done
-        };
-        assert_eq!(rt;
-            ending_with(alloc, whole.as_slice(), &[call], b"")?,
-            (unread, true)
+        let (read, write) = (
+            fault_before(call, 2, Status::ReadFault),
+            fault_before(call, 8, Status::WriteFault),
         );
-        assert_eq!(rt;
-            ending_with(alloc, whole.as_slice(), b"", &[call])?,
-            (unwritten, true)
+        assert!(rt;
+            begins_whole(alloc, whole.as_slice(), &[call], b"", read)?,
+            "read {call}"
+        );
+        assert!(rt;
+            begins_whole(alloc, whole.as_slice(), b"", &[call], write)?,
+            "write {call}"
         );
     }
     Ok(())
@@ -142,15 +163,13 @@ fn what_was_written_is_a_beginning(rt: HostRuntime) -> Result<(), Fail> {
 /// Replays a trace whose second line is bad, with one call of the error sink that fails. Returns
 /// the status, and whether this many octets of the error text are then written.
 fn unsaid_at(alloc: Global, call: u8, said: usize) -> Result<(Status, bool), Starved> {
-    let trace = Bytes::copy_of(alloc, b"go 0 6\nx\n")?;
-    let mut source = MemSource::of(trace, Bytes::new(alloc));
-    let mut err = MemSink::of(alloc, Bytes::copy_of(alloc, &[call])?);
-    let status = replay(alloc, &[], &mut source, &mut SureSink::new(), &mut err);
+    let mut err = sink_of(alloc, &[call])?;
+    let status = replayed(alloc, b"go 0 6\nx\n", b"", &mut SureSink::new(), &mut err)?;
     Ok((status, SAID.get(..said) == Some(err.as_slice())))
 }
 
 #[test]
-fn what_is_said_may_be_cut_off(rt: HostRuntime) -> Result<(), Fail> {
+fn what_is_said_may_be_cut_off(rt: HostRuntime) -> Result<(), Starved> {
     let bad = Status::Line(LineBad {
         line: 2,
         why: Reason::Form,

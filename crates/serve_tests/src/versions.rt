@@ -11,7 +11,6 @@ use query_text::reg_params;
 use rd_base::{Host, Moment, Name, Pairs, Peer, Starved, Text, UpdateParams};
 use registration::{Draft, build};
 use std::alloc::Global;
-use std::test::Fail;
 
 /// One less than the maximum number of entries of a version: 2^48 - 2.
 const LAST_BUT_ONE: u64 = 281_474_976_710_654;
@@ -118,11 +117,13 @@ fn told(version: &Directory, name: &Name, now: u64) -> (u64, Option<u64>, Option
 }
 
 #[test]
-fn the_last_entry_is_counted(rt: HostRuntime) -> Result<(), Fail> {
+fn the_last_entry_is_counted(rt: HostRuntime) -> Result<(), Refusal> {
     let alloc = rt.alloc();
-    let Ok(full) = full(alloc) else {
-        return Err("the last entry did not come".into());
+    let name = Name {
+        ep: Text::copy_of(alloc, "0001")?,
+        sector: None,
     };
+    let full = full(alloc)?;
     assert_eq!(rt; full.entries(), LAST_BUT_ONE + 1);
     let again = registered(alloc, &full, 1, 60, b"").err();
     assert_eq!(rt; again, Some(Refusal::FullEntries));
@@ -130,10 +131,6 @@ fn the_last_entry_is_counted(rt: HostRuntime) -> Result<(), Fail> {
     assert_eq!(rt; refusals(alloc, &full, 1), Some(last));
     let gone = (Refusal::Gone(2), Refusal::Gone(2));
     assert_eq!(rt; refusals(alloc, &full, 2), Some(gone));
-    let name = Name {
-        ep: Text::copy_of(alloc, "0001")?,
-        sector: None,
-    };
     assert_eq!(rt; told(&full, &name, 59_999), (1, Some(1), Some(60)));
     assert_eq!(rt; told(&full, &name, 60_000), (0, None, None));
     Ok(())
@@ -157,23 +154,39 @@ fn crowded(alloc: Global) -> Result<Directory, Refusal>
     Ok(version)
 }
 
-/// Each registration weighs 58 octets and the digits of its number, which are 15,277 in all. The
-/// link weighs 1,048,577 octets: its own and a comma.
-#[test]
-fn a_crowd_lapses_in_order_and_is_full(rt: HostRuntime) -> Result<(), Fail> {
-    let alloc = rt.alloc();
-    let crowd = crowded(alloc)?;
-    for (from, to, next) in [(0, 300_000, [2, 3, 1]), (60_000, 299_999, [3, 0, 0])] {
-        let mut lapsing = crowd.lapsing(Moment(from), Moment(to));
-        for number in next {
-            let record = lapsing.step();
-            assert_eq!(rt; record.map_or(0, |record| record.number), number);
+/// Returns whether the next registrations that lapse between two moments have these numbers, with 0
+/// for one that there is not.
+fn lapse_so(version: &Directory, from: u64, to: u64, numbers: [u64; 3]) -> bool
+    requires swept { version.now.swept ≡ 0 }
+{
+    let mut lapsing = version.lapsing(Moment(from), Moment(to));
+    for number in numbers {
+        if lapsing.step().map_or(0, |record| record.number) != number {
+            return false;
         }
     }
-    let new = registered(alloc, &crowd, 4_097, 60, b"").err();
-    assert_eq!(rt; new, Some(Refusal::FullCount(4_096)));
+    true
+}
+
+/// Returns the body of a registration with a link of 1,048,576 octets.
+fn long_link(alloc: Global) -> Result<Vec<u8>, Starved> {
     let mut link = vec![in alloc; b'x'; 1_048_576]?;
     (link[0], link[2], link[1_048_575]) = (b'<', b':', b'>');
+    Ok(link)
+}
+
+/// Asserts when a crowd lapses, and what is too much for it. Each registration weighs 58 octets and
+/// the digits of its number, which are 15,277 in all. The link weighs 1,048,577 octets: its own and
+/// a comma.
+#[test]
+fn a_crowd_lapses_in_order_and_is_full(rt: HostRuntime) -> Result<(), Refusal> {
+    let alloc = rt.alloc();
+    let link = long_link(alloc)?;
+    let crowd = crowded(alloc)?;
+    assert!(rt; lapse_so(&crowd, 0, 300_000, [2, 3, 1]));
+    assert!(rt; lapse_so(&crowd, 60_000, 299_999, [3, 0, 0]));
+    let new = registered(alloc, &crowd, 4_097, 60, b"").err();
+    assert_eq!(rt; new, Some(Refusal::FullCount(4_096)));
     let long = registered(alloc, &crowd, 1, 300, link.as_slice()).err();
     assert_eq!(rt; long, Some(Refusal::FullText(1_301_422)));
     Ok(())
@@ -181,7 +194,7 @@ fn a_crowd_lapses_in_order_and_is_full(rt: HostRuntime) -> Result<(), Fail> {
 
 /// Copies the parameters of an update, which no request does.
 #[test]
-fn copies_are_equal(rt: HostRuntime) -> Result<(), Fail> {
+fn copies_are_equal(rt: HostRuntime) -> Result<(), Starved> {
     let change = renewal(rt.alloc());
     assert_eq!(rt; change.clone()?, change);
     Ok(())

@@ -8,7 +8,6 @@ use rd_desk::{Outbox, Stepped};
 use rd_seat::{Hall, OpenGate, Seat, Seats};
 use std::alloc::Global;
 use std::sync::Wait;
-use std::test::Fail;
 use std::thread;
 use std::thread::Threads;
 
@@ -76,6 +75,32 @@ fn answer_from(out: &Outbox, offset: usize) -> &[u8] {
     }
 }
 
+/// Returns a number that no other octets have, or 0 if there are none or more than seven.
+fn number_of(octets: &[u8]) -> u64 {
+    let mut number = 1u64;
+    for octet in octets {
+        number = number.wrapping_mul(256).wrapping_add(u64::from(*octet));
+    }
+    if octets.is_empty() || octets.len() > 7 {
+        0
+    } else {
+        number
+    }
+}
+
+/// Records the location of a name, which is 0 if there is none. Returns whether there is one, and
+/// none other was recorded.
+fn keeps(locations: &mut [u64], name: u8, location: u64) -> bool {
+    match locations.get_mut(usize::from(name)) {
+        Some(kept) => {
+            let is_one = location != 0 && (*kept == 0 || *kept == location);
+            *kept = location;
+            is_one
+        }
+        None => false,
+    }
+}
+
 /// A worker with its seat.
 #[derive(Drop)]
 struct Worker<'a> {
@@ -86,52 +111,54 @@ struct Worker<'a> {
 }
 
 impl<'a> Worker<'a> {
-    /// Makes one round. Returns the location of the name, or nothing if a request was not answered
-    /// as expected.
-    fn round<R: Wait>(
-        &mut self,
-        alloc: Global,
-        rt: &R,
-        round: u8,
-        out: &mut Outbox,
-    ) -> Result<Vec<u8>, Starved> {
+    /// Makes one round: registers into `made`, and looks into `looked`. Returns the number of the
+    /// location of the name, or 0 if a request was not answered as expected.
+    fn round<R: Wait>(&mut self, rt: &R, round: u8, made: &mut Outbox, looked: &mut Outbox) -> u64 {
         let requests = requests_of(self.number, round);
         let peer = Peer {
             host: ENDPOINT.host,
             port: u16::from(self.number),
         };
         let (hall, seat) = (self.hall, &mut self.seat);
-        let is_made = register(rt, hall, &OpenGate, seat, peer, &requests.registration, out);
-        let location = answer_from(out, LOCATION_AT).to_vec(alloc)?;
-        out.clear();
-        let ticked = seat.tick(rt, hall, &OpenGate, Moment(1000), 0, out);
-        let is_found = looks(seat, &requests.lookup, FOUND, out);
-        let is_listed = answer_from(out, LISTED_AT).starts_with(location.as_slice());
+        let is_made = register(
+            rt,
+            hall,
+            &OpenGate,
+            seat,
+            peer,
+            &requests.registration,
+            made,
+        );
+        looked.clear();
+        let ticked = seat.tick(rt, hall, &OpenGate, Moment(1000), 0, looked);
+        let is_found = looks(seat, &requests.lookup, FOUND, looked);
+        let location = answer_from(made, LOCATION_AT);
+        let is_listed = answer_from(looked, LISTED_AT).starts_with(location);
         if is_made && ticked == Stepped::Done && is_found && is_listed {
-            return Ok(location);
+            number_of(location)
+        } else {
+            0
         }
-        Ok(Vec::new(alloc))
     }
 
     /// Makes all rounds. Returns whether all was answered, and each name has one location.
-    fn works<R: Wait>(&mut self, alloc: Global, rt: &R) -> Result<bool, Starved> {
-        let mut out = Outbox::make(alloc)?;
-        let mut locations: Vec<Vec<u8>> = Vec::new(alloc);
+    fn rounds<R: Wait>(&mut self, rt: &R, made: &mut Outbox, looked: &mut Outbox) -> bool {
+        let mut locations = [0u64; 25];
         for round in 0..ROUNDS {
-            let location = self.round(alloc, rt, round, &mut out)?;
-            if location.is_empty() {
-                return Ok(false);
-            }
-            match locations.get(usize::from(round % NAMES)) {
-                Some(before) if round >= NAMES => {
-                    if *before != location {
-                        return Ok(false);
-                    }
-                }
-                _ => locations.push(location)?,
+            let location = self.round(rt, round, made, looked);
+            if !keeps(&mut locations, round % NAMES, location) {
+                return false;
             }
         }
-        Ok(true)
+        true
+    }
+
+    /// Makes all rounds with new outboxes. Returns whether all was answered, and each name has one
+    /// location.
+    fn works<R: Wait>(&mut self, alloc: Global, rt: &R) -> Result<bool, Starved> {
+        let mut made = Outbox::make(alloc)?;
+        let mut looked = Outbox::make(alloc)?;
+        Ok(self.rounds(rt, &mut made, &mut looked))
     }
 }
 
@@ -186,7 +213,7 @@ fn all_see_all<R: Threads + Wait + Sync>(
 }
 
 #[test]
-fn sixteen_at_once(rt: HostRuntime) -> Result<(), Fail> {
+fn sixteen_at_once(rt: HostRuntime) -> Result<(), Starved> {
     let (hall, seats) = Hall::make(rt.alloc(), &rt, 16)?;
     let seen = all_see_all(rt.alloc(), &rt, &hall, seats);
     hall.end(&rt);

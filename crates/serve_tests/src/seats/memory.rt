@@ -10,7 +10,6 @@ use rd_desk::{Outbox, Stepped};
 use rd_seat::{Hall, OpenGate, Seat, SeatHeard};
 use std::alloc::Global;
 use std::sync::Wait;
-use std::test::Fail;
 
 /// A request to observe the links (RFC 7641 section 3), with room for its Message ID.
 const OBSERVE: &[u8; 33] = b"\x41\x01\x00\x00\xc0\x60\x59rd-lookup\x03res\x4crt=light-lux";
@@ -109,7 +108,7 @@ fn goes_on<R: Wait>(rt: &R, hall: &Hall, seat: &mut Seat, out: &mut Outbox) -> b
 }
 
 #[test]
-fn goes_on_without_memory(rt: HostRuntime) -> Result<(), Fail> {
+fn goes_on_without_memory(rt: HostRuntime) -> Result<(), Starved> {
     let mut out = match Outbox::make(rt.alloc()) {
         Ok(out) => out,
         Err(Starved) => Outbox::make(rt.alloc())?,

@@ -4,7 +4,7 @@ use coap_stream::{MemAccept, StreamsStatus, serve_streams};
 use rd_base::{Bytes, Starved};
 use rd_seat::OpenGate;
 use std::alloc::Global;
-use std::test::Fail;
+use std::sync::Wait;
 use udp_link::Arrivals;
 
 /// Returns a door with two connections. The second opens and sends nothing.
@@ -15,34 +15,55 @@ fn two_connections(alloc: Global) -> Result<MemAccept, Starved> {
     Ok(MemAccept::of(streams))
 }
 
-#[test]
-fn so_many_are_served_and_counted(rt: HostRuntime) -> Result<(), Fail> {
-    let mut door = two_connections(rt.alloc())?;
+/// A server of the door.
+struct Case {
+    name: &'static str,
+    /// The number of connections that it serves.
+    count: u8,
+    /// The write of the output that fails.
+    unwritten: &'static [u8],
+    status: StreamsStatus,
+    written: &'static [u8],
+}
+
+const CASES: &[Case] = &[
+    Case {
+        name: "so many are served and counted",
+        count: 2,
+        unwritten: b"",
+        status: StreamsStatus::Done,
+        written: b"talked 2 1\n",
+    },
+    Case {
+        name: "one that cannot be opened is told",
+        count: 3,
+        unwritten: b"",
+        status: StreamsStatus::Link,
+        written: b"",
+    },
+    Case {
+        name: "an output that fails is told",
+        count: 2,
+        unwritten: b"\0",
+        status: StreamsStatus::Write,
+        written: b"",
+    },
+];
+
+/// Serves the door as a case says. Returns whether all is as expected.
+fn serves_so<R: Wait + AllocGlobal>(rt: &R, case: &Case) -> Result<bool, Starved> {
     let mut clock = clock_of(rt.alloc());
-    let mut out = sink_of(rt.alloc(), b"")?;
-    let status = serve_streams(&rt, &mut door, &mut clock, &OpenGate, 2, &mut out);
-    assert_eq!(rt; status, StreamsStatus::Done);
-    assert_eq!(rt; out.as_slice(), b"talked 2 1\n".as_slice());
-    Ok(())
+    let mut out = sink_of(rt.alloc(), case.unwritten)?;
+    let mut door = two_connections(rt.alloc())?;
+    let count = u64::from(case.count);
+    let status = serve_streams(rt, &mut door, &mut clock, &OpenGate, count, &mut out);
+    Ok(status == case.status && out.as_slice() == case.written)
 }
 
 #[test]
-fn one_that_cannot_be_opened_is_told(rt: HostRuntime) -> Result<(), Fail> {
-    let mut door = two_connections(rt.alloc())?;
-    let mut clock = clock_of(rt.alloc());
-    let mut out = sink_of(rt.alloc(), b"")?;
-    let status = serve_streams(&rt, &mut door, &mut clock, &OpenGate, 3, &mut out);
-    assert_eq!(rt; status, StreamsStatus::Link);
-    assert_eq!(rt; out.as_slice(), b"".as_slice());
-    Ok(())
-}
-
-#[test]
-fn an_output_that_fails_is_told(rt: HostRuntime) -> Result<(), Fail> {
-    let mut door = two_connections(rt.alloc())?;
-    let mut clock = clock_of(rt.alloc());
-    let mut out = sink_of(rt.alloc(), b"\x00")?;
-    let status = serve_streams(&rt, &mut door, &mut clock, &OpenGate, 2, &mut out);
-    assert_eq!(rt; status, StreamsStatus::Write);
+fn a_door_of_two_connections(rt: HostRuntime) -> Result<(), Starved> {
+    for case in CASES {
+        assert!(rt; serves_so(&rt, case)?, "{}", case.name);
+    }
     Ok(())
 }

@@ -5,17 +5,69 @@ use coap_stream::{TalkEnd, TalkFault, Talked, converse};
 use rd_base::{Bytes, MemSink, MemSource, Starved};
 use rd_seat::OpenGate;
 use std::sync::Wait;
-use std::test::Fail;
+
+/// A connection that requests the discovery.
+struct Case {
+    name: &'static str,
+    /// The read that fails.
+    unread: &'static [u8],
+    /// The write that fails.
+    unwritten: &'static [u8],
+    outcome: Result<Talked, TalkFault>,
+    written: &'static [u8],
+}
+
+const CASES: &[Case] = &[
+    Case {
+        name: "the first read fails",
+        unread: b"\0",
+        unwritten: b"",
+        outcome: Err(TalkFault::Read),
+        written: b"\x00\xe1",
+    },
+    Case {
+        name: "the second read fails",
+        unread: b"\x01",
+        unwritten: b"",
+        outcome: Err(TalkFault::Read),
+        written: DISCOVERED,
+    },
+    Case {
+        name: "the first write fails",
+        unread: b"",
+        unwritten: b"\0",
+        outcome: Err(TalkFault::Write),
+        written: b"",
+    },
+    Case {
+        name: "the second write fails",
+        unread: b"",
+        unwritten: b"\x01",
+        outcome: Err(TalkFault::Write),
+        written: b"\x00\xe1",
+    },
+    Case {
+        name: "there is no third write",
+        unread: b"",
+        unwritten: b"\x02",
+        outcome: Ok(Talked {
+            end: TalkEnd::Closed,
+            asked: 1,
+            dropped: 0,
+        }),
+        written: DISCOVERED,
+    },
+];
 
 /// Requests the discovery over a connection whose reads with these numbers fail, into `out`.
 fn talked<R: Wait + AllocGlobal>(
     rt: &R,
-    fail_read: &[u8],
+    unread: &[u8],
     out: &mut MemSink,
 ) -> Result<Result<Talked, TalkFault>, Starved> {
     let alloc = rt.alloc();
     let octets = Bytes::copy_of(alloc, DISCOVERY)?;
-    let mut source = MemSource::of(octets, Bytes::copy_of(alloc, fail_read)?);
+    let mut source = MemSource::of(octets, Bytes::copy_of(alloc, unread)?);
     let mut clock = clock_of(alloc);
     let (hall, mut seat) = one_seat(alloc, rt)?;
     let talked = converse(
@@ -32,31 +84,17 @@ fn talked<R: Wait + AllocGlobal>(
     Ok(talked)
 }
 
-#[test]
-fn a_reading_that_fails_is_told(rt: HostRuntime) -> Result<(), Fail> {
-    let mut out = sink_of(rt.alloc(), b"")?;
-    assert_eq!(rt; talked(&rt, b"\x00", &mut out)?, Err(TalkFault::Read));
-    assert_eq!(rt; out.as_slice(), b"\x00\xe1".as_slice());
-    let mut out = sink_of(rt.alloc(), b"")?;
-    assert_eq!(rt; talked(&rt, b"\x01", &mut out)?, Err(TalkFault::Read));
-    assert_eq!(rt; out.as_slice(), DISCOVERED);
-    Ok(())
+/// Makes the connection of a case. Returns whether all is as expected.
+fn talks_so<R: Wait + AllocGlobal>(rt: &R, case: &Case) -> Result<bool, Starved> {
+    let mut out = sink_of(rt.alloc(), case.unwritten)?;
+    let outcome = talked(rt, case.unread, &mut out)?;
+    Ok(outcome == case.outcome && out.as_slice() == case.written)
 }
 
 #[test]
-fn each_writing_that_fails_is_told(rt: HostRuntime) -> Result<(), Fail> {
-    let mut out = sink_of(rt.alloc(), b"\x00")?;
-    assert_eq!(rt; talked(&rt, b"", &mut out)?, Err(TalkFault::Write));
-    assert_eq!(rt; out.as_slice(), b"".as_slice());
-    let mut out = sink_of(rt.alloc(), b"\x01")?;
-    assert_eq!(rt; talked(&rt, b"", &mut out)?, Err(TalkFault::Write));
-    assert_eq!(rt; out.as_slice(), b"\x00\xe1".as_slice());
-    let mut out = sink_of(rt.alloc(), b"\x02")?;
-    let closed = Talked {
-        end: TalkEnd::Closed,
-        asked: 1,
-        dropped: 0,
-    };
-    assert_eq!(rt; talked(&rt, b"", &mut out)?, Ok(closed));
+fn each_failure_is_told(rt: HostRuntime) -> Result<(), Starved> {
+    for case in CASES {
+        assert!(rt; talks_so(&rt, case)?, "{}", case.name);
+    }
     Ok(())
 }

@@ -24,19 +24,19 @@ fn asks(alloc: Global, client: TcpStream) -> io::Result<bool> {
 
 #[test]
 fn a_client_is_served_over_tcp(rt: HostRuntime) -> Result<(), Fail> {
+    let mut out = sink_of(rt.alloc(), b"")?;
     let listener = TcpListener::bind(&rt, "127.0.0.1:0")?;
     let client = TcpStream::connect(&rt, listener.local_addr()?)?;
     let mut door = TcpAccept::of(&rt, rt.alloc(), listener);
     let mut clock = UdpClock::new(&rt);
     let alloc = rt.alloc();
-    let mut out = sink_of(alloc, b"")?;
     let (status, answered) = thread::join(
         &rt,
         || serve_streams(&rt, &mut door, &mut clock, &OpenGate, 1, &mut out),
         || asks(alloc, client),
     );
     assert_eq!(rt; status, StreamsStatus::Done);
-    assert!(rt; answered?);
+    assert!(rt; matches!(answered, Ok(true)));
     assert_eq!(rt; out.as_slice(), b"talked 1 1\n".as_slice());
     Ok(())
 }
