@@ -9,6 +9,23 @@ use rd_base::{Items, LinkParts, LinksBuilder, Moment, Record, RegParams, Starved
 use std::alloc::Global;
 use vector_words::{Line, NoAnswer, cut};
 
+/// Adds a link to the builder with its target, its anchor and the attributes that were added
+/// before.
+fn with_target<'a>(
+    builder: LinksBuilder,
+    target: &'a str,
+    anchor: &'a Option<Text>,
+) -> Result<LinksBuilder, Starved> {
+    let anchor = text_in(anchor);
+    let parts = LinkParts {
+        target_ref: "",
+        anchor_ref: None,
+        target,
+        anchor,
+    };
+    builder.with_link(&parts)
+}
+
 /// Adds a link to the builder, unchanged.
 fn with_link(
     alloc: Global,
@@ -25,12 +42,7 @@ fn with_link(
         }
         builder = builder.with_pair(param.raw, param.name, value.as_str())?;
     }
-    builder.with_link(&LinkParts {
-        target_ref: "",
-        anchor_ref: None,
-        target: link.target,
-        anchor: text_in(&anchor),
-    })
+    with_target(builder, link.target, &anchor)
 }
 
 /// Returns the links of a document, unchanged.
