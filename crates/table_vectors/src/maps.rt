@@ -1,7 +1,7 @@
 //! Scripts on maps.
 ghost use Rattle.std.specs.Prelude.{◌≡◌, ◌<◌};
 
-use crate::draws::{next_drawn, summed};
+use crate::draws::{next_drawn, sum_of, summed};
 use crate::values::{MapValue, Marked};
 use crate::versions::Versions;
 use crate::words::put_sum;
@@ -31,43 +31,40 @@ fn put_value<V: MapValue>(line: &mut Line<'_>, map: &ChunkMap<u64, V>, key: u64)
     line.put_number(map.len());
 }
 
-/// Writes a pair that comes after this number of others.
-fn put_pair(line: &mut Line<'_>, count: u64, key: u64, value: u64) {
-    if count > 0 {
-        line.put(" ");
-    }
-    line.put_number(key);
-    line.put("=");
-    line.put_number(value);
-}
-
-/// Writes the pairs from the key on that a line gives, or how many there are and their checksum.
-fn put_pairs<L: Ledger, V: MapValue>(
+/// Returns the keys and values of the pairs from this key on, one after another.
+fn pairs_from<L: Ledger, V: MapValue>(
     blank: Blank,
-    line: &mut Line<'_>,
+    alloc: Global,
     map: &ChunkMap<u64, V>,
-    verb: &str,
-)
+    from: u64,
+) -> Result<Vec<u64>, Starved>
     requires name { blank.name ≡ L.name }
     requires parts { blank.parts ≡ L.parts }
     requires some { 0 < L.parts }
 {
-    let from = line.number(u64::MAX);
     let mut steps = Steps::<L>::new(blank);
     let mut left = map.range(&from);
-    let mut count = 0;
-    let mut sum = 0;
+    let mut pairs = Vec::new(alloc);
     while let Some((key, value)) = left.step(&mut steps) {
-        let value = value.number();
-        if verb == "range" {
-            put_pair(line, count, *key, value);
-        }
-        count = u64::wrapping_add(count, 1);
-        sum = summed(summed(sum, *key), value);
+        pairs.push(*key)?;
+        pairs.push(value.number())?;
     }
-    if verb == "sum" {
-        put_sum(line, count, sum);
-    } else if count == 0 {
+    Ok(pairs)
+}
+
+/// Writes pairs, or that there are none.
+fn put_pairs(line: &mut Line<'_>, pairs: &[u64]) {
+    let mut space = "";
+    for pair in pairs.chunks(2) {
+        if let [key, value] = pair {
+            line.put(space);
+            line.put_number(*key);
+            line.put("=");
+            line.put_number(*value);
+            space = " ";
+        }
+    }
+    if pairs.is_empty() {
         line.put("none");
     }
 }
@@ -238,24 +235,34 @@ impl<V: MapValue> Maps<V> {
         Ok(())
     }
 
-    /// Writes the pairs from a key on, or how many there are and their checksum.
-    fn read_pairs(&self, line: &mut Line<'_>, verb: &str) {
-        put_pairs::<Brand, V>(Blank::new(1), line, &self.versions.now, verb);
+    /// Returns the keys and values of the pairs from the key on that a line gives.
+    fn pairs(&self, line: &mut Line<'_>) -> Result<Vec<u64>, Starved> {
+        let from = line.number(u64::MAX);
+        let alloc = line.alloc;
+        let pairs = pairs_from::<Brand, V>(Blank::new(1), alloc, &self.versions.now, from)?;
+        Ok(pairs)
     }
 
-    /// Writes what a call reads from the map.
+    /// Writes the pairs from a key on, or how many there are and their checksum.
+    fn read_pairs(&self, line: &mut Line<'_>, verb: &str) -> Result<(), Starved> {
+        let pairs = self.pairs(line)?;
+        if verb == "sum" {
+            put_sum(line, pairs.len() as u64 / 2, sum_of(pairs.as_slice()));
+        } else {
+            put_pairs(line, pairs.as_slice());
+        }
+        Ok(())
+    }
+
+    /// Writes the value at a key, or whether there are few chunks.
     fn read(&self, line: &mut Line<'_>, verb: &str) {
         let map = &self.versions.now;
-        match verb {
-            "range" | "sum" => self.read_pairs(line, verb),
-            "get" => {
-                let key = line.number(u64::MAX);
-                put_value(line, map, key);
-            }
-            _ => {
-                let most = line.number(u64::MAX);
-                put_bound(line, map.count_chunks() as u64, most);
-            }
+        if verb == "get" {
+            let key = line.number(u64::MAX);
+            put_value(line, map, key);
+        } else {
+            let most = line.number(u64::MAX);
+            put_bound(line, map.count_chunks() as u64, most);
         }
     }
 
@@ -266,7 +273,8 @@ impl<V: MapValue> Maps<V> {
             "put" | "take" => self.change(line, verb),
             "puts" | "takes" | "runs" => self.change_much(line, verb),
             "random" => change_many(&mut self.versions.now, &self.kind, line),
-            "get" | "range" | "sum" | "chunks" => {
+            "range" | "sum" => self.read_pairs(line, verb),
+            "get" | "chunks" => {
                 self.read(line, verb);
                 Ok(())
             }

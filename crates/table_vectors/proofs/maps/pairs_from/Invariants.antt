@@ -1,5 +1,5 @@
 use Rattle.std.proofs.Common.{length}
-use Rattle.table_vectors.proofs.maps.put_pairs.Given as goal
+use Rattle.table_vectors.proofs.maps.pairs_from.Given as goal
 
 abbrev pub decreases-loop-key : goal.decreases-loop-key
 decreases-loop-key g l = length l.left
