@@ -579,7 +579,11 @@ fn serve_jointly_above<
 /// # Errors
 ///
 /// `Starved` if memory runs out before the ends are served.
-fn serve_ends<R: Threads + Wait + Sync + AllocGlobal, L: Link + Send, C: Clock + Send>(
+fn serve_ends<
+    R: Threads + Wait + Sync + AllocGlobal,
+    L: Link + Send + Drop,
+    C: Clock + Send + Drop,
+>(
     rt: &HostRuntime,
     handles: &R,
     mut ends: Vec<End<L, C>>,
