@@ -52,16 +52,16 @@ fn pairs_from<L: Ledger, V: MapValue>(
     Ok(pairs)
 }
 
-/// Writes pairs, or that there are none.
+/// Writes pairs on an empty page, or that there are none.
 fn put_pairs(line: &mut Line<'_>, pairs: &[u64]) {
-    let mut space = "";
     for pair in pairs.chunks(2) {
         if let [key, value] = pair {
-            line.put(space);
+            if !line.page.is_empty() {
+                line.put(" ");
+            }
             line.put_number(*key);
             line.put("=");
             line.put_number(*value);
-            space = " ";
         }
     }
     if pairs.is_empty() {
