@@ -2,16 +2,18 @@
 ghost use Rattle.std.specs.Prelude.{◌≡◌, ◌+◌, [], ◌∷◌, IfSome, IfNone};
 ghost use Rattle.attribute_index.specs.Bounds.{AreBounds};
 ghost use Rattle.attribute_index.specs.Rows as spec;
-ghost use Rattle.attribute_index.specs.Rows.{WantedFirst, wanted_numbers};
+ghost use Rattle.chunk_map.specs.Sorted.{IsAscending};
+ghost use Rattle.attribute_index.specs.Rows.{WantedFirst, joined, row_cmp, wanted_numbers};
 
 use crate::bounds::Bounds;
-use crate::rows::{Row, next_row};
+use crate::row_cursors::{RowCursor, next_of_both};
+use crate::rows::Row;
 use crate::values::Value;
 use chunk_map::RangeIter;
 use listing::matches_value;
 use rd_base::{Steps, Text};
-use std::marker::{Brand, Model};
-use std::sync::ledger::{Blank, Ledger};
+use std::marker::Model;
+use std::sync::ledger::Ledger;
 
 /// A cursor over numbers of records. Contracts see it as the numbers that are left, in order.
 #[derive(Drop)]
@@ -22,20 +24,22 @@ pub struct Carriers<'a> {
     pattern: Text,
     /// The range of abbreviations of values sought.
     bounds: Bounds,
-    /// The rows that are left, beginning with those sought.
-    rows: RangeIter<'a, Row, ()>,
+    /// The latest rows that are left. Together with the others, they begin with those sought.
+    young: RowCursor<'a>,
+    /// The other rows that are left.
+    settled: RowCursor<'a>,
 }
 
 impl<'a> Model for Carriers<'a> {
     ghost use Rattle.std.specs.Prelude.{ℕ, List};
     ghost use Rattle.attribute_index.specs.Bounds.{AreBounds};
-    ghost use Rattle.attribute_index.specs.Rows.{wanted_numbers, WantedFirst};
+    ghost use Rattle.attribute_index.specs.Rows.{joined, wanted_numbers, WantedFirst};
 
     ghost Value = { List ℕ };
 
-    ghost view = { λ c. wanted_numbers c.name c.pattern c.rows };
+    ghost view = { λ c. wanted_numbers c.name c.pattern (joined c.young c.settled) };
 
-    ghost invariant = { λ c. WantedFirst c.name c.pattern c.rows
+    ghost invariant = { λ c. WantedFirst c.name c.pattern (joined c.young c.settled)
         × AreBounds c.bounds c.name c.pattern };
 }
 
@@ -52,22 +56,24 @@ fn is_wanted(name: &str, pattern: &str, bounds: &Bounds, value: &Value) -> bool
 
 /// Returns the number of the next row if its value is sought. Returns `None` if and only if no row
 /// with such a value is left.
-fn next_wanted(
+fn next_wanted<'a>(
     name: &str,
     pattern: &str,
     bounds: &Bounds,
-    rows: &mut RangeIter<'_, Row, ()>,
+    young: &mut RowCursor<'a>,
+    settled: &mut RowCursor<'a>,
 ) -> Option<u64>
-    requires first { WantedFirst name.now pattern.now rows.old }
+    requires first { WantedFirst name.now pattern.now (joined young.old settled.old) }
     requires bounds { AreBounds bounds.now name.now pattern.now }
-    ensures next { IfSome result (λ number. wanted_numbers name.now pattern.now rows.old
-        ≡ number ∷ wanted_numbers name.now pattern.now rows.new) }
+    ensures next { IfSome result
+        (λ number. wanted_numbers name.now pattern.now (joined young.old settled.old)
+        ≡ number ∷ wanted_numbers name.now pattern.now (joined young.new settled.new)) }
     ensures end { IfNone result
-        ((wanted_numbers name.now pattern.now rows.old ≡ [])
-        × (wanted_numbers name.now pattern.now rows.new ≡ [])) }
-    ensures first { WantedFirst name.now pattern.now rows.new }
+        ((wanted_numbers name.now pattern.now (joined young.old settled.old) ≡ [])
+        × (wanted_numbers name.now pattern.now (joined young.new settled.new) ≡ [])) }
+    ensures first { WantedFirst name.now pattern.now (joined young.new settled.new) }
 {
-    let row = next_row::<Brand>(Blank::new(1), rows)?;
+    let row = next_of_both(young, settled)?;
     if !is_wanted(name, pattern, bounds, &row.value) {
         return None;
     }
@@ -76,16 +82,26 @@ fn next_wanted(
 
 impl<'a> Carriers<'a> {
     /// Creates a cursor over the numbers of those rows whose values are sought.
-    pub(crate) fn over(name: Text, pattern: Text, rows: RangeIter<'a, Row, ()>) -> Carriers<'a>
-        requires { WantedFirst name pattern rows }
-        ensures { result ≡ wanted_numbers name pattern rows.entry }
+    pub(crate) fn over(
+        name: Text,
+        pattern: Text,
+        young: RangeIter<'a, Row, ()>,
+        settled: RangeIter<'a, Row, ()>,
+    ) -> Carriers<'a>
+        requires first { WantedFirst name pattern (joined young settled) }
+        requires young { IsAscending row_cmp young }
+        requires settled { IsAscending row_cmp settled }
+        ensures { result ≡ wanted_numbers name pattern (joined young.entry settled.entry) }
     {
         let bounds = Bounds::of(name.as_str(), pattern.as_str());
+        let young = RowCursor::over(young);
+        let settled = RowCursor::over(settled);
         Carriers {
             name,
             pattern,
             bounds,
-            rows,
+            young,
+            settled,
         }
     }
 
@@ -103,7 +119,8 @@ impl<'a> Carriers<'a> {
             self.name.as_str(),
             self.pattern.as_str(),
             &self.bounds,
-            &mut self.rows,
+            &mut self.young,
+            &mut self.settled,
         )
     }
 }

@@ -5,6 +5,7 @@ mod abbreviations;
 mod bounds;
 mod carriers;
 mod index;
+mod row_cursors;
 mod rows;
 mod values;
 

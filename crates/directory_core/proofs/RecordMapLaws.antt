@@ -24,14 +24,13 @@ use Rattle.std.proofs.Common.{
 }
 use Rattle.std.specs.declared.cmp.Ordering.{Ordering}
 use Rattle.std.specs.declared.cmp.Ordering.TheVariants.{Less, Equal, Greater}
-use Rattle.std.specs.Ordering.{MatchOrdering, match_ordering, nat_cmp, is_eq, is_le}
+use Rattle.std.specs.Ordering.{MatchOrdering, match_ordering, nat_cmp, is_eq}
 use Rattle.std.specs.Cmp.{ranks}
 use Rattle.std.specs.Map.{values_of, lookup, remove_entry}
 use Rattle.std.specs.BTreeMap.{insert_entry, is_at}
-use Rattle.std.specs.BTreeMap.Range.{entries_from}
 use Rattle.std.proofs.lemmas.Bool.Decides.{nat_tests}
 use Rattle.rd_base.specs.declared.records.Record.{Record}
-use Rattle.rd_base.proofs.lemmas.Each.{each_weaker, each_both, each_map, each_one}
+use Rattle.rd_base.proofs.lemmas.Each.{each_weaker, each_both, each_map}
 use Rattle.rd_base.proofs.lemmas.Filters.{filter_all}
 use Rattle.rd_base.proofs.lemmas.Pairs.{PairsByRecursion}
 use Rattle.chunk_map.specs.Sorted.{IsAscending}
@@ -175,17 +174,3 @@ under-remove test (e ∷ es) under = by (test e.0) (under-remove test es under.1
         → AreUnderNumbers (cond b es (e ∷ remove_entry test es))
     by true more = under.1
     by false more = (under.0, more)
-
--- ---- all
-
--- no number is below 0
-pub from_zero : {X : Type 0} (es : List (ℕ × X)) → entries_from (nat_cmp 0) es ≡ es
-from_zero es =
-    filter_all (λ e. is_le (nat_cmp 0 e.0)) es
-    (each_one (λ e. is_le (nat_cmp 0 e.0) ≡ true) (λ e. by e.0 (nat_cmp 0 e.0) (ranks 0 e.0))
-    es)
-  where
-    by : (n : ℕ) (r : Ordering) → MatchOrdering r (0 < n) (0 ≡ n) (n < 0) → is_le r ≡ true
-    by n Less h = refl
-    by n Equal h = refl
-    by n Greater h = absurd (omega arith)

@@ -33,7 +33,7 @@ use Rattle.rd_base.specs.declared.moments.Moment.{Moment}
 use Rattle.rd_base.specs.declared.records.Record.{Record}
 use Rattle.rd_base.proofs.lemmas.Each.{each_weaker}
 use Rattle.rd_base.proofs.lemmas.Pairs.{PairsByRecursion, pairs_filter}
-use Rattle.record_model.specs.ListingLines.{weight}
+use Rattle.record_model.specs.ListingLines.{endpoint_line, weight}
 use Rattle.registration.specs.declared.drafts.Draft.{Draft}
 use Rattle.registration.specs.Drafts.{recorded}
 use Rattle.history_model.specs.Leases.{lapse, is_live_at, live_among}
@@ -119,6 +119,16 @@ stays now shown old lt same lasts live =
     let above : now.0 < shown.granted.0 + 1000 * shown.lt =
     subst (λ (r : Record). now.0 < r.granted.0 + 1000 * r.lt) (sym same) (ltb-true _ _ live) in
     subst (λ (n : ℕ). now.0 < shown.granted.0 + 1000 * n) (sym lasts) above
+
+-- a draft with the base, the attributes and the links of a record weighs what the record weighs
+pub weight_alike : (old : Record) (granted : Moment) (draft : Draft)
+    → draft.name ≡ old.name
+    → draft.base ≡ old.base
+    → draft.attrs ≡ old.attrs
+    → draft.items ≡ old.items
+    → weight (recorded old.number granted draft) ≡ weight old
+unfolding weight endpoint_line recorded
+weight_alike old granted draft name base attrs items = rw (name, base, attrs, items) refl
 
 pub record_number : (number : ℕ) (now : Moment) (draft : Draft)
     → (recorded number now draft).number ≡ number

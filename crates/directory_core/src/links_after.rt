@@ -1,4 +1,10 @@
 //! The effect of a change on the links of a record.
+ghost use Rattle.registration.specs.Submissions.{IsOfBody};
+ghost use Rattle.directory_core.specs.AfterEntries.{IsSound};
+ghost use Rattle.directory_core.specs.LinksAgainst.{AreAfter};
+
+use rd_base::Record;
+use registration::Draft;
 
 /// The effect of a change on the links of a record.
 ///
@@ -10,4 +16,20 @@ pub(crate) enum LinksAfter {
     Kept,
     /// Other links replace them, which may be equal to them.
     Replaced,
+}
+
+/// Returns what a draft does to the links of a record. If the draft has the base of the record and
+/// the source of its links, the links are kept.
+pub(crate) fn links_after(old: &Record, draft: &Draft) -> LinksAfter
+    requires old { IsOfBody old.now }
+    requires draft { IsSound draft.now }
+    ensures { AreAfter result old.now.items draft.now.items }
+{
+    if old.base != draft.base {
+        return LinksAfter::Replaced;
+    }
+    if old.items.source().as_bytes() != draft.items.source().as_bytes() {
+        return LinksAfter::Replaced;
+    }
+    LinksAfter::Kept
 }

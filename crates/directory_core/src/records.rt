@@ -78,7 +78,7 @@ impl Records {
     pub(crate) fn all(&self) -> RangeIter<'_, u64, StoredRecord>
         ensures { values_of result ≡ self.now }
     {
-        self.pairs.range(&0)
+        self.pairs.all()
     }
 
     /// Returns the records with one more, which replaces any record with its number.

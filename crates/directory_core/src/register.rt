@@ -7,13 +7,14 @@ ghost use Rattle.history_model.specs.Leases.{is_live_at, live_among};
 ghost use Rattle.history_model.specs.Replay.{is_live_named, numbered, replay, number_for};
 ghost use Rattle.history_model.specs.Versions.{VersionStandsFor};
 ghost use Rattle.registration.specs.Drafts.{IsDraft};
+ghost use Rattle.registration.specs.Submissions.{IsOfBody};
 ghost use Rattle.directory_core.specs.Answers.{IsRefusalOf};
 ghost use Rattle.directory_core.specs.Changes.{IsRegistrationOf};
 ghost use Rattle.directory_core.specs.EntryAnswers as answers;
 ghost use Rattle.directory_core.specs.LiveCounts.{counts_of};
 
 use crate::counts::Counts;
-use crate::links_after::LinksAfter;
+use crate::links_after::links_after;
 use crate::stored_record::StoredRecord;
 use crate::{Directory, Refusal};
 use history_model::limits::MAX_REGISTRATIONS;
@@ -72,6 +73,7 @@ impl Directory {
         requires stored { numbered old.now.number self.now.records ≡ Some old.now }
         requires live { is_live_at now.0 old.now ≡ true }
         requires named { old.now.name ≡ draft.name }
+        requires of_body { IsOfBody old.now }
         requires draft { IsDraft draft }
         ensures answers { (first : ℕ) (history : List Entry) (entry : Entry)
             → VersionStandsFor first history self.now
@@ -81,7 +83,8 @@ impl Directory {
         ensures at { IfOk result (λ version. version.at ≡ now.0) }
     {
         let _ = &self.alloc;
-        self.renewed(now, counts, old, now, draft, LinksAfter::Replaced)
+        let links = links_after(old.as_record(), &draft);
+        self.renewed(now, counts, old, now, draft, links)
     }
 
     /// Returns the version with this registration, and its number (RFC 9176 section 5).

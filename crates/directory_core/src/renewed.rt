@@ -1,11 +1,13 @@
 //! Versions with one record changed, added or removed.
 ghost use Rattle.std.specs.Prelude.{◌≡◌, ◌+◌, ◌*◌, ◌<◌, ◌≤◌, ◌^◌};
 ghost use Rattle.std.specs.Prelude.{◌++◌, ◌∷◌, [], true, Some};
-ghost use Rattle.std.specs.Prelude.{length};
+ghost use Rattle.std.specs.Prelude.{length, IsTrue};
+ghost use Rattle.record_model.specs.ListingLines as listing_model;
 ghost use Rattle.history_model.specs.Leases.{is_live_at, live_among};
 ghost use Rattle.history_model.specs.Refusals.{max_registrations, text_of};
 ghost use Rattle.history_model.specs.Replay.{numbered};
 ghost use Rattle.registration.specs.Drafts.{recorded};
+ghost use Rattle.registration.specs.Weights.{capped};
 ghost use Rattle.directory_core.specs.AfterEntries.{renewed, without, after_entry, IsSound};
 ghost use Rattle.directory_core.specs.AfterEntries.{IsMadeWithRoom};
 ghost use Rattle.directory_core.specs.LinksAgainst.{AreAfter};
@@ -17,8 +19,37 @@ use crate::links_after::LinksAfter;
 use crate::room::{record_from, room_for_entry, text_with};
 use crate::stored_record::StoredRecord;
 use crate::{Directory, Refusal};
-use rd_base::Moment;
+use rd_base::{Moment, Record};
 use registration::{Draft, weight};
+
+/// Returns whether a draft has the base, the attributes and the links of a record. Links that were
+/// replaced count as others.
+fn is_shown_alike(old: &Record, draft: &Draft, links: LinksAfter) -> bool
+    requires { AreAfter links old.now.items draft.now.items }
+    ensures { IsTrue result → (draft.now.base ≡ old.now.base)
+        × (draft.now.attrs ≡ old.now.attrs)
+        × (draft.now.items ≡ old.now.items) }
+{
+    match links {
+        LinksAfter::Kept => old.base == draft.base && old.attrs == draft.attrs,
+        LinksAfter::Replaced => false,
+    }
+}
+
+/// Returns the weight of a draft that takes the place of a record under its number and name, in
+/// octets. It is the weight of the record if no line changes.
+fn weight_after(old: &StoredRecord, draft: &Draft, links: LinksAfter) -> u64
+    requires named { draft.now.name ≡ old.now.name }
+    requires links { AreAfter links old.now.items draft.now.items }
+    ensures { (granted : Moment) → result ≡ capped (listing_model.weight
+        (recorded old.now.number granted draft.now)) }
+{
+    let before = old.as_record();
+    if is_shown_alike(before, draft, links) {
+        return old.octets();
+    }
+    weight(draft, before.number)
+}
 
 impl Directory {
     /// Returns the version in which a draft replaces a live record under the same number and name,
@@ -51,7 +82,7 @@ impl Directory {
     {
         let entries = self.entries;
         let number = old.as_record().number;
-        let octets = weight(&draft, number);
+        let octets = weight_after(old, &draft, links);
         let text = match text_with(counts.text - old.octets(), octets, entries) {
             Ok(text) => text,
             Err(refusal) => return Err(refusal),

@@ -1,23 +1,8 @@
 -- The order of leases is strict, and of two leases that differ one stands before the other.
-use Rattle.std.proofs.Common.{
-  ◌≡◌,
-  ℕ,
-  ◌<◌,
-  ◌==◌,
-  ◌&&◌,
-  ◌||◌,
-  nat_lt,
-  nat_le,
-  true,
-  false,
-  refl,
-  ap,
-  ◌∙◌,
-  arith,
-}
+use Rattle.std.proofs.Common.{◌≡◌, ℕ, ◌<◌, ◌==◌, ◌&&◌, ◌||◌, nat_lt, nat_le, true, false, ap, ◌∙◌, arith}
 use Rattle.std.specs.declared.cmp.Ordering.{Ordering}
 use Rattle.std.specs.declared.cmp.Ordering.TheVariants.{Less, Equal, Greater}
-use Rattle.std.specs.Ordering.{MatchOrdering, ordering_then, nat_cmp, is_le}
+use Rattle.std.specs.Ordering.{MatchOrdering, ordering_then, nat_cmp}
 use Rattle.std.specs.Cmp.{ranks}
 use Rattle.std.proofs.lemmas.Bool.{and_parts, eqb-true}
 use Rattle.std.proofs.lemmas.Bool.Decides.{nat_tests}
@@ -113,23 +98,6 @@ pub ranked : (x y : Lease)
 ranked x y =
     ranked_numbers x.lapse.0 x.number y.lapse.0 y.number (nat_cmp x.lapse.0 y.lapse.0)
     (nat_cmp x.number y.number) (ranks x.lapse.0 y.lapse.0) (ranks x.number y.number)
-
--- no lease is below the least
-least_numbers : (a m : ℕ) (r s : Ordering)
-    → MatchOrdering r (0 < a) (0 ≡ a) (a < 0)
-    → MatchOrdering s (0 < m) (0 ≡ m) (m < 0)
-    → is_le (ordering_then r s) ≡ true
-least_numbers a m Less s p q = refl
-least_numbers a m Equal Less p q = refl
-least_numbers a m Equal Equal p q = refl
-least_numbers a m Equal Greater p q = absurd (omega arith)
-least_numbers a m Greater s p q = absurd (omega arith)
-
-pub least_first : (x : Lease)
-    → is_le (lease_cmp (record { lapse = record { 0 = 0 }; number = 0 }) x) ≡ true
-least_first x =
-    least_numbers x.lapse.0 x.number (nat_cmp 0 x.lapse.0) (nat_cmp 0 x.number) (ranks 0 x.lapse.0)
-    (ranks 0 x.number)
 
 differ_back_numbers : (a m b n : ℕ)
     → (nat_lt a b || ((a == b) && nat_lt m n)) ≡ true

@@ -38,7 +38,6 @@ use Rattle.std.specs.declared.cmp.Ordering.TheVariants.{Less, Equal, Greater}
 use Rattle.std.specs.Ordering.{MatchOrdering, match_ordering, is_eq}
 use Rattle.std.specs.Map.{keys_of, remove_entry}
 use Rattle.std.specs.BTreeMap.{insert_entry, is_at}
-use Rattle.std.specs.BTreeMap.Range.{entries_from}
 use Rattle.std.specs.List.{AllByRecursion, Contains}
 use Rattle.std.proofs.lemmas.Bool.{false≢true}
 use Rattle.std.proofs.lemmas.List.Elements.{
@@ -64,7 +63,6 @@ use Rattle.lease_queue.specs.Leases.{
 use Rattle.lease_queue.proofs.OrderLaws.{
   lease_cmp,
   ranked,
-  least_first,
   differs_back,
   unlapsed_after,
   before_trans,
@@ -332,12 +330,6 @@ module _ {X : Type 0} where
           subst (λ z. keys_of es ≡ without_lease (e.0 ∷ keys_of es) z) (sym (same_is lease e.0 h))
           (sym (without_first e.0 (keys_of es) up))
       by Greater h more = rw (before_differs e.0 lease h) (ap (λ rest. e.0 ∷ rest) more)
-
-  -- all stand from the least on
-  pub from_least : (es : List (Lease × X))
-      → entries_from (lease_cmp (record { lapse = record { 0 = 0 }; number = 0 })) es ≡ es
-  from_least [] = refl
-  from_least (e ∷ es) = rw (least_first e.0) (ap (λ rest. e ∷ rest) (from_least es))
 
   pub keys_count : (es : List (Lease × X)) → length (keys_of es) ≡ length es
   keys_count [] = refl

@@ -174,10 +174,7 @@ impl LeaseQueue {
         ensures leases { keys_of result ≡ self.now }
         ensures ascends { IsAscending (keys_of result) }
     {
-        self.leases.range(&Lease {
-            lapse: Moment(0),
-            number: 0,
-        })
+        self.leases.all()
     }
 
     /// Returns a cursor over the numbers of the leases that have lapsed at this moment, in order.

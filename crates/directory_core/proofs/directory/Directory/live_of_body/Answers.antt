@@ -1,4 +1,4 @@
-use Rattle.std.proofs.Common.{◌≡◌, sym, subst}
+use Rattle.std.proofs.Common.{sym, subst}
 use Rattle.rd_base.specs.declared.records.Record.{Record}
 use Rattle.registration.specs.Submissions.{IsOfBody}
 use Rattle.directory_core.proofs.directory.Directory.live_of_body.Goals as goal

@@ -12,6 +12,13 @@ use Rattle.directory_core.proofs.AnswerLaws.{
 }
 use Rattle.directory_core.proofs.directory.Directory.register.Goals as goal
 
+pub register_again-requires-clause-of_body : goal.register_again-requires-clause-of_body
+register_again-requires-clause-of_body c =
+    record {
+      against = c.in-Some.ensures.sound.against;
+      links = c.in-Some.ensures.sound.of_body;
+    }
+
 pub returns-in_default-clause-stands : goal.returns-in_default-clause-stands
 returns-in_default-clause-stands c first history entry stands h =
     numbered_stands first history entry c.args.self.now.swept (c.self.inside.last_number + 1)

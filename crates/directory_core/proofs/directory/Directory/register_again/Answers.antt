@@ -1,9 +1,19 @@
 use Rattle.std.proofs.Common.{subst}
+use Rattle.rd_base.specs.declared.records.Record.{Record}
+use Rattle.directory_core.specs.LinksAgainst.{AreAfter}
 use Rattle.directory_core.specs.Shown.{IsKept}
 use Rattle.directory_core.proofs.AnswerLaws.{again_answers}
 use Rattle.directory_core.proofs.FitLaws.{draft_sound}
 use Rattle.directory_core.proofs.RenewLaws.{begins}
 use Rattle.directory_core.proofs.directory.Directory.register_again.Goals as goal
+
+pub links_after-links-requires-clause-draft : goal.links_after-links-requires-clause-draft
+links_after-links-requires-clause-draft c = draft_sound c.args.draft c.requires.draft
+
+pub renewed-requires-clause-links : goal.renewed-requires-clause-links
+renewed-requires-clause-links c =
+    subst (λ (r : Record). AreAfter c.links_after-links.result r.items c.args.draft.items)
+    c.as_record.ensures c.links_after-links.ensures
 
 pub renewed-requires-clause-sound : goal.renewed-requires-clause-sound
 renewed-requires-clause-sound c = draft_sound c.args.draft c.requires.draft

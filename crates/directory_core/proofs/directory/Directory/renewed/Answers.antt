@@ -91,10 +91,8 @@ returns-in-Err c =
     let text =
     text_is v c.args.now c.args.counts c.args.old.now c.args.granted c.args.draft a kept.rising
     c.octets.result c.octets.ensures in
-    let octets : c.weight-octets.result ≡ capped (weight new) =
-    c.weight-octets.ensures c.args.granted
-    ∙ ap (λ n. capped (weight (recorded n c.args.granted c.args.draft)))
-    (ap (λ (x : Record). x.number) c.as_record.ensures) in
+    let octets : c.weight_after-octets.result ≡ capped (weight new) =
+    c.weight_after-octets.ensures c.args.granted in
     room_refused (text_of (renewed new (live_among c.args.now.0 v.records))) v.entries i.entries
     (after_entry v c.args.now.0 (renewed new v.records) v.last_number) c.in-Err.refusal
     (Err c.in-Err.refusal)
@@ -171,8 +169,8 @@ invariant_of-result c =
     let new = recorded old.number granted draft in
     let number : c.as_record.result.now.number ≡ old.number =
     ap (λ (x : Record). x.number) c.as_record.ensures in
-    let octets : c.weight-octets.result ≡ capped (weight new) =
-    c.weight-octets.ensures granted ∙ ap (λ n. capped (weight (recorded n granted draft))) number in
+    let octets : c.weight_after-octets.result ≡ capped (weight new) =
+    c.weight_after-octets.ensures granted in
     let room = c.in-Ok.ensures (weight new) octets in
     let entries : i.entries ≡ v.entries = ap (λ (w : Version). w.entries) c.self.view_is in
     let text =
@@ -244,8 +242,8 @@ returns c =
     let new = recorded old.number granted draft in
     let number : c.as_record.result.now.number ≡ old.number =
     ap (λ (x : Record). x.number) c.as_record.ensures in
-    let octets : c.weight-octets.result ≡ capped (weight new) =
-    c.weight-octets.ensures granted ∙ ap (λ n. capped (weight (recorded n granted draft))) number in
+    let octets : c.weight_after-octets.result ≡ capped (weight new) =
+    c.weight_after-octets.ensures granted in
     let room = c.in-Ok.ensures (weight new) octets in
     let entries : i.entries ≡ v.entries = ap (λ (w : Version). w.entries) c.self.view_is in
     let text =
