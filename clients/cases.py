@@ -146,7 +146,8 @@ def resource_lookup(run):
         ("by the location of the registration", "href=/rd/1", first.first_links),
         ("by two filters of a link", "rt=temperature&ct=0", first.temp),
         ("by a filter of the link and one of the endpoint", "rt=humidity&d=floor2", first.hum),
-        ("two filters that two links meet list neither", "rt=humidity&rel=describedby", ""),
+        ("if each of two links matches one of two filters, neither is listed",
+         "rt=humidity&rel=describedby", ""),
         ("of what is not there", "rt=pump", ""),
         ("a page of two", "count=2", f"{first.temp},{first.light}"),
         ("the page after it", "page=1&count=2", f"{first.log},{first.hum}"),
@@ -178,7 +179,7 @@ def endpoint_lookup(run):
         ("by the type of all endpoints", "rt=core.rd-ep", first.endpoints),
         ("by the resource type of a link", "rt=light-lux", first.node1),
         ("by the target of a link", f"href={ADDRESS}/hum", first.node2),
-        ("two filters that two links meet list the endpoint",
+        ("if each of two links matches one of two filters, the endpoint is listed",
          "rt=humidity&rel=describedby", first.node2),
         ("of what is not there", "ep=node9", ""),
         ("the third by pages of one", "page=2&count=1", first.other),
@@ -325,7 +326,7 @@ def observing(run):
                        notification("", "E", 5)])
     observing_endpoints(run)
     observing_blocks(run)
-    run.ask("an observation that never was is ended, by a lookup", ["-O", "6,0x01"],
+    run.ask("a lookup ends an observation that does not exist", ["-O", "6,0x01"],
             "/rd-lookup/res?rt=lamp", [content()])
 
 
@@ -601,11 +602,12 @@ def commissioning(run):
 
 
 def ends(run):
-    run.group("The server's own words and its end")
+    run.group("The server's arguments and its end")
     port = run.port("short")
     run.end_of("a port that is taken", ["--port", str(run.port("server"))],
                ["status 6", "socket"])
-    run.end_of("words that it has not", ["--workers", "17"], ["status 3", "usage: rd_serve"])
+    run.end_of("arguments that it does not accept", ["--workers", "17"],
+               ["status 3", "usage: rd_serve"])
     run.end_of("a server of few turns ends, and says that it answered each ping",
                ["--port", str(port), "--workers", str(run.workers), "--turns", FEW_TURNS],
                ["status 0", "served N N 0"], pinged=port)

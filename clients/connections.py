@@ -237,8 +237,8 @@ def silent(run, words: str):
         for worker in workers:
             worker.join()
         wanted = [CSM, CREATED, CONTENT]
-        run.tell("beside one that sends nothing fifteen are served", words, ["15 of them"],
-                 [f"{answered.count(wanted)} of them"])
+        run.tell("fifteen connections are served while another one sends nothing", words,
+                 ["15 of them"], [f"{answered.count(wanted)} of them"])
         came = [idle.comes(FIRST_LIMIT + LIMIT).hex(), idle.comes(FIRST_LIMIT + LIMIT).hex()]
         run.tell("the one that sends nothing is ended by an Abort after ten seconds", words,
                  [OFFER, message(ABORT).hex(), "in time"],

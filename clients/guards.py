@@ -211,7 +211,7 @@ def shares(run, opened):
     one, again = Source(run, opened, "127.0.0.2"), Source(run, opened, "127.0.0.2")
     first = [one.registers(f"node{place}") for place in range(SHARE)]
     line = f"(octets) {SHARE} registrations from 127.0.0.2"
-    run.tell("as many writes as a share has pass", line, ["2.01"] * SHARE, first)
+    run.tell("the guard lets the writes of a share pass", line, ["2.01"] * SHARE, first)
     run.tell("one more is answered 4.29 with Max-Age", line, ["4.29 Max-Age"],
              [one.registers("more")])
     run.tell("from another port of the address, too", line, ["4.29 Max-Age"],
@@ -246,8 +246,8 @@ def limits(run, opened):
     run.tell("lookups have a share where that is said", "(octets) from 127.0.0.7",
              ["2.05"] * LOOKUPS + ["4.29 Max-Age"], [many.looks(1) for _ in range(LOOKUPS + 1)])
     later = [*path("rd-lookup", "ep"), (BLOCK2, b"\x16")]
-    run.tell("a later block of a lookup is none", "(octets) from 127.0.0.7", ["not 4.29"],
-             ["not 4.29" if "4.29" not in many.asks(GET, later) else "4.29"])
+    run.tell("a later block of a lookup does not count as a lookup", "(octets) from 127.0.0.7",
+             ["not 4.29"], ["not 4.29" if "4.29" not in many.asks(GET, later) else "4.29"])
     one = Source(run, opened, "127.0.0.6")
     run.tell("a lookup with as many query options as may be", "(octets)", ["2.05"],
              [one.looks(CRITERIA)])

@@ -344,7 +344,7 @@ def faults(run):
               ["status 5", "memory: it ran out"], stdin=listed, preexec_fn=has_little_room)
     usage = "usage: rd_install [--from ADDRESS] register|refresh|remove|keep < LIST"
     for words in ([], ["registers"], ["--from", "register"], ["--from", "192.0.2", "register"]):
-        case(run, "words that it has not", words, [""], ["status 3", usage])
+        case(run, "arguments that it does not accept", words, [""], ["status 3", usage])
     case(run, "an address that is not of this machine", ["--from", "192.0.2.1", "register"], [""],
          ["status 6", "--from: not an address of this machine"])
 

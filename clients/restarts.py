@@ -96,7 +96,7 @@ def words_of(run, *more: str) -> list[str]:
 
 
 def begin(run, name: str, least: int = 0) -> int:
-    """A case: rd_host counts above the milliseconds since 1970 at its start, and no less."""
+    """A case: rd_host gives numbers above the milliseconds since 1970 at its start, and no less."""
     before = int(time.time() * 1_000)
     first = start(run, words_of(run))
     wanted = "above the milliseconds since 1970"
@@ -138,7 +138,7 @@ def run(run_of_cases):
 def across_a_restart(run, devices: list[Device]):
     """Of two runs no number and no tag of the one is one of the other."""
     endpoints, one = "/rd-lookup/ep", f"/rd-lookup/ep?ep={devices[0].name}"
-    first = begin(run, "rd_host counts above the milliseconds since 1970")
+    first = begin(run, "rd_host gives numbers above the milliseconds since 1970")
     _, made, looked, tags = register_all(devices, first, [])
     count(run, f"{DEVICES} devices register, each at the next location", "at the next", made)
     count(run, "after each of them a lookup has the tag of one change more", "tags", looked)
@@ -154,7 +154,8 @@ def across_a_restart(run, devices: list[Device]):
     # If numbers began at 1 in each run, the last 50 of these would find the first 50 at theirs.
     devices.reverse()
     missed, made, looked, _ = register_all(devices, again, tags)
-    count(run, "one after the other refreshes at its old location", "get 4.04", missed)
+    count(run, "each device in turn refreshes its old location, which is not found", "get 4.04",
+          missed)
     count(run, "and registers again, at the next location", "at the next", made)
     count(run, "after each of them a lookup with a tag of the run before is answered 2.05",
           "get 2.05", looked)
