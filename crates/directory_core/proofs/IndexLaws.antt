@@ -573,6 +573,15 @@ ok_shared (Ok after) rs left index same are is =
     subst (AreEntriesOf left) (sym is) (subst (λ xs. AreEntriesOf xs index) same are)
 ok_shared (Err error) rs left index same are is = tt
 
+-- what holds of a value holds of a result that is equal to it
+pub ok_same : {X E : Type 0} (r : Result X E) (x : X)
+    → IfOk r (λ y. y ≡ x)
+    → (P : X → Type 0)
+    → P x
+    → IfOk r P
+ok_same (Ok y) x is P p = subst P (sym is) p
+ok_same (Err error) x is P p = tt
+
 -- no records have no entries
 pub no_entries : (records : List Record) (index : List Entry)
     → records ≡ []

@@ -34,7 +34,7 @@ impl Directory {
         let records = self.records.share()?;
         let names = self.names.share()?;
         let leases = self.leases.share()?;
-        let index = self.index.share(self.alloc)?;
+        let index = self.index.share()?;
         let counts = self.counts_at(now);
         Ok(Directory {
             records,

@@ -4,7 +4,7 @@ ghost use Rattle.history_model.specs.Versions.{VersionStandsFor};
 
 use crate::names::Names;
 use crate::records::Records;
-use attribute_index::AttributeIndex;
+use crate::shared_index::SharedIndex;
 use lease_queue::LeaseQueue;
 use rd_base::{Moment, Starved};
 use std::alloc::Global;
@@ -25,7 +25,7 @@ pub struct Directory {
     /// Their leases.
     pub(crate) leases: LeaseQueue,
     /// The values of their attributes, including those of their links.
-    pub(crate) index: AttributeIndex,
+    pub(crate) index: SharedIndex,
     /// The number of them that were live at the moment of the last entry or of the last sweep,
     /// whichever is later.
     pub(crate) live: u64,
@@ -94,7 +94,7 @@ impl Directory {
             records: Records::empty(alloc)?,
             names: Names::empty(alloc)?,
             leases: LeaseQueue::empty(alloc)?,
-            index: AttributeIndex::empty(alloc)?,
+            index: SharedIndex::empty(alloc)?,
             live: 0,
             text: 0,
             entries: first,

@@ -13,6 +13,7 @@ ghost use Rattle.directory_core.specs.IndexedPairs.{item_pairs};
 ghost use Rattle.directory_core.specs.LinksAgainst.{AreAfter};
 
 use crate::links_after::LinksAfter;
+use crate::shared_index::SharedIndex;
 use attribute_index::AttributeIndex;
 use rd_base::{Link, LinkPairs, Links, Pair, PairRef, Record, Starved};
 use std::alloc::Global;
@@ -243,17 +244,17 @@ fn with_record(
 /// by itself.
 pub(crate) fn index_with(
     alloc: Global,
-    index: &AttributeIndex,
+    index: &SharedIndex,
     record_of: &Record,
-) -> Result<AttributeIndex, Starved>
+) -> Result<SharedIndex, Starved>
     ensures entries { IfOk result
         (λ after. (e : Entry) → has_entry after e
         ≡ (has_entry index.now e || has_entry (record_entries record_of.now) e)) }
     ensures ascends { IfOk result (λ after. IsAscending after) }
 {
-    let shared = index.share(alloc)?;
+    let shared = index.as_index().share(alloc)?;
     let after = with_record(alloc, shared, record_of)?;
-    Ok(after)
+    SharedIndex::of(alloc, after)
 }
 
 /// Consumes an index, and returns it without a record.
@@ -275,19 +276,33 @@ pub(crate) fn without_record(
     Ok(index)
 }
 
-/// Returns the index without a record.
-pub(crate) fn index_without(
+/// Returns a copy of the index without a record.
+fn copied_without(
     alloc: Global,
-    index: &AttributeIndex,
+    index: &SharedIndex,
     record_of: &Record,
 ) -> Result<AttributeIndex, Starved>
     ensures entries { IfOk result (λ after. (e : Entry) → has_entry after e
         ≡ (has_entry index.now e && not (has_entry (record_entries record_of.now) e))) }
     ensures ascends { IfOk result (λ after. IsAscending after) }
 {
-    let shared = index.share(alloc)?;
+    let shared = index.as_index().share(alloc)?;
     let after = without_record(alloc, shared, record_of)?;
     Ok(after)
+}
+
+/// Returns the index without a record.
+pub(crate) fn index_without(
+    alloc: Global,
+    index: &SharedIndex,
+    record_of: &Record,
+) -> Result<SharedIndex, Starved>
+    ensures entries { IfOk result (λ after. (e : Entry) → has_entry after e
+        ≡ (has_entry index.now e && not (has_entry (record_entries record_of.now) e))) }
+    ensures ascends { IfOk result (λ after. IsAscending after) }
+{
+    let after = copied_without(alloc, index, record_of)?;
+    SharedIndex::of(alloc, after)
 }
 
 /// Returns whether two links have the same attributes.
@@ -339,15 +354,31 @@ fn is_indexed_alike(old: &Record, new: &Record, links: LinksAfter) -> bool
     old.base == new.base && old.attrs == new.attrs && links_carry_alike(old, new, links)
 }
 
+/// Returns a copy of the index with a record in place of one with the same number and name.
+fn copied_renewed(
+    alloc: Global,
+    index: &SharedIndex,
+    old: &Record,
+    new: &Record,
+) -> Result<AttributeIndex, Starved>
+    requires { new.now.number ≡ old.now.number }
+    ensures { (records : List Record) → PairsByRecursion IsBelow records
+        → numbered old.now.number records ≡ Some old.now → AreEntriesOf records index.now
+        → IfOk result (AreEntriesOf (renewed new.now records)) }
+{
+    let left = copied_without(alloc, index, old)?;
+    with_record(alloc, left, new)
+}
+
 /// Returns the index with a record in place of one with the same number and name. If both have the
-/// same attributes, as after a mere renewal of the lease, the index does not change.
+/// same attributes, as after a mere renewal of the lease, the index does not change, and is shared.
 pub(crate) fn index_renewed(
     alloc: Global,
-    index: &AttributeIndex,
+    index: &SharedIndex,
     old: &Record,
     new: &Record,
     links: LinksAfter,
-) -> Result<AttributeIndex, Starved>
+) -> Result<SharedIndex, Starved>
     requires numbered { new.now.number ≡ old.now.number }
     requires named { new.now.name ≡ old.now.name }
     requires links { AreAfter links old.now.items new.now.items }
@@ -356,8 +387,8 @@ pub(crate) fn index_renewed(
         → IfOk result (AreEntriesOf (renewed new.now records)) }
 {
     if is_indexed_alike(old, new, links) {
-        return index.share(alloc);
+        return index.share();
     }
-    let left = index_without(alloc, index, old)?;
-    with_record(alloc, left, new)
+    let after = copied_renewed(alloc, index, old, new)?;
+    SharedIndex::of(alloc, after)
 }

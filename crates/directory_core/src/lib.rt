@@ -22,6 +22,7 @@ mod remove;
 mod renewed;
 mod replace;
 mod room;
+mod shared_index;
 mod sources;
 mod stored_record;
 mod sweep;

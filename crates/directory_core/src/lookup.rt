@@ -36,7 +36,8 @@ impl Directory {
             ≤ steps.old + length (attribute_criteria query.now.criteria) *
             (length (index.carriers_of criterion.name criterion.pattern entries) + 1) }
     {
-        match fewest_carriers(self.alloc, &self.index, query.criteria.as_slice(), steps)? {
+        let index = self.index.as_index();
+        match fewest_carriers(self.alloc, index, query.criteria.as_slice(), steps)? {
             Some(numbers) => {
                 page.add_numbered(self.alloc, query, &self.records, numbers.as_slice(), now)
             }

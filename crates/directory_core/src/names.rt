@@ -9,6 +9,7 @@ use chunk_map::{ChunkMap, RangeIter, Shared};
 use rd_base::{Name, Starved, Steps};
 use std::alloc::Global;
 use std::marker::Model;
+use std::sync::Arc;
 use std::sync::ledger::Ledger;
 
 /// The number of a record under the hash of its name.
@@ -68,17 +69,20 @@ fn hash_of(name: &Name) -> u64
 #[derive(Drop)]
 pub struct Names {
     /// The slots as keys, so that versions share those that do not change.
-    slots: ChunkMap<NameSlot, ()>,
+    slots: Arc<ChunkMap<NameSlot, ()>>,
+    /// The allocator of the names made from these.
+    alloc: Global,
 }
 
 impl Model for Names {
     ghost use Rattle.std.specs.Prelude.{List};
+    ghost use Rattle.std.specs.Arc.{arc_value};
     ghost use Rattle.std.specs.Map.{keys_of};
     ghost use Rattle.directory_core.specs.declared.names.NameSlot.{NameSlot};
 
     ghost Value = { List NameSlot };
 
-    ghost view = { λ n. keys_of n.slots };
+    ghost view = { λ n. keys_of (arc_value n.slots) };
 }
 
 /// A cursor over the numbers under one hash. Contracts see the remaining numbers, in ascending
@@ -102,22 +106,38 @@ impl<'a> Model for NumbersUnder<'a> {
 }
 
 impl Names {
+    /// Prepares slots to be shared.
+    fn of(alloc: Global, slots: ChunkMap<NameSlot, ()>) -> Result<Names, Starved>
+        ensures { IfOk result (λ names. names ≡ keys_of slots) }
+    {
+        let slots = Arc::new(alloc, slots)?;
+        Ok(Names { slots, alloc })
+    }
+
     /// Returns an empty set of names.
     pub(crate) fn empty(alloc: Global) -> Result<Names, Starved>
         ensures { IfOk result (λ names. names ≡ []) }
     {
-        Ok(Names {
-            slots: ChunkMap::empty(alloc)?,
-        })
+        let slots = ChunkMap::empty(alloc)?;
+        Names::of(alloc, slots)
     }
 
-    /// Returns equal names, which share their memory.
+    /// Returns the same names. Does not copy.
     pub(crate) fn share(&self) -> Result<Names, Starved>
         ensures { IfOk result (λ names. names ≡ self.now) }
     {
+        let slots = Arc::try_clone(&self.slots)?;
         Ok(Names {
-            slots: self.slots.share()?,
+            slots,
+            alloc: self.alloc,
         })
+    }
+
+    /// Returns the slots.
+    fn slots(&self) -> &ChunkMap<NameSlot, ()>
+        ensures { keys_of result.now ≡ self.now }
+    {
+        &*self.slots
     }
 
     /// Returns the names with one more number, under this name.
@@ -129,9 +149,8 @@ impl Names {
             hash: hash_of(name),
             number,
         };
-        Ok(Names {
-            slots: self.slots.put(slot, ())?,
-        })
+        let slots = self.slots().put(slot, ())?;
+        Names::of(self.alloc, slots)
     }
 
     /// Returns the names without this number, which is under this name.
@@ -143,9 +162,8 @@ impl Names {
             hash: hash_of(name),
             number,
         };
-        Ok(Names {
-            slots: self.slots.take(&slot)?,
-        })
+        let slots = self.slots().take(&slot)?;
+        Names::of(self.alloc, slots)
     }
 
     /// Returns a cursor over the numbers under the hash of this name. These are the numbers of all
@@ -155,7 +173,7 @@ impl Names {
     {
         let hash = hash_of(name);
         NumbersUnder {
-            left: self.slots.range(&NameSlot { hash, number: 0 }),
+            left: self.slots().range(&NameSlot { hash, number: 0 }),
             hash,
         }
     }

@@ -14,6 +14,7 @@ use crate::Directory;
 use crate::index::without_record;
 use crate::names::Names;
 use crate::records::Records;
+use crate::shared_index::SharedIndex;
 use attribute_index::AttributeIndex;
 use lease_queue::Swept;
 use rd_base::{Moment, Starved, Steps};
@@ -115,9 +116,10 @@ impl Directory {
             self.alloc,
             &self.records,
             &self.names,
-            &self.index,
+            self.index.as_index(),
             numbers.as_slice(),
         )?;
+        let index = SharedIndex::of(self.alloc, index)?;
         Ok(Directory {
             records,
             names,

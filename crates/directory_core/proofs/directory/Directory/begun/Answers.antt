@@ -31,7 +31,7 @@ invariant_of-result c =
           c.lifted.result) c.in_ok-names.names c.in_ok-leases.leases c.counts_at-counts.result.live
           c.counts_at-counts.result.text) (sym c.self.view_is) whole,
       subst (λ rs. AreEntriesOf rs c.in_ok-index.index) (sym records)
-          (subst (AreEntriesOf v.records) (sym c.in_ok-index.ensures.same) indexed),
+          (subst (AreEntriesOf v.records) (sym c.in_ok-index.ensures) indexed),
     )
 
 pub returns : goal.returns

@@ -6,6 +6,7 @@ use Rattle.history_model.proofs.SweepLaws.{live_among_live}
 use Rattle.history_model.proofs.VersionLaws.{swept_to, swept_to-VersionStandsFor}
 use Rattle.lease_queue.specs.Leases.{lapsed_at, unlapsed_at}
 use Rattle.directory_core.specs.declared.counts.Counts.{Counts}
+use Rattle.directory_core.specs.Bounds.{AreEntriesOf}
 use Rattle.directory_core.specs.Shown.{IsKept}
 use Rattle.directory_core.specs.Swept.{without_all}
 use Rattle.directory_core.proofs.ReadLaws.{lapsed-counted}
@@ -33,6 +34,19 @@ returns-in_default-clause-counted g c =
 
 pub returns-in_err-records-clause-counted : goal.returns-in_err-records-clause-counted
 returns-in_err-records-clause-counted g c =
+    let v = c.args.self.now in
+    let i = c.self.inside in
+    let kept : IsKept v i.names i.leases i.live i.text =
+    subst (λ w. IsKept w i.names i.leases i.live i.text) c.self.view_is c.self.invariant.0 in
+    let all :
+    length (lapsed_at c.args.now.0 i.leases)
+    ≡ length (filter (λ r. nat_le (lapse r) c.args.now.0) v.records) =
+    ap (λ q. length (lapsed_at c.args.now.0 q)) kept.leased
+    ∙ lapsed_count c.args.now.0 v.records kept.rising in
+    omega (arith, all, c.sweep-swept.ensures.counted)
+
+pub returns-in_err-index-clause-counted : goal.returns-in_err-index-clause-counted
+returns-in_err-index-clause-counted g c =
     let v = c.args.self.now in
     let i = c.self.inside in
     let kept : IsKept v i.names i.leases i.live i.text =
@@ -93,7 +107,8 @@ invariant_of-result g c =
           (w.swept_live + (i.live - c.counts_at-counts.result.live)))
           c.in_ok-records.names c.in-Ok.field-0.queue c.counts_at-counts.result.live
           c.counts_at-counts.result.text) (sym c.self.view_is) whole,
-      c.in_ok-records.ensures.entries,
+      subst (AreEntriesOf c.in_ok-records.records) (sym c.in_ok-index.ensures)
+          c.in_ok-records.ensures.entries,
     )
 
 pub returns-clause-stands : goal.returns-clause-stands

@@ -10,6 +10,6 @@ unfolding numbers_of_hash
 returns c =
     let hash = c.hash_of-hash.result in
     ap (λ left. numbers_under hash (keys_of left)) c.range.ensures
-    ∙ ap (numbers_under hash) (keys-from hash c.self.inside.slots)
-    ∙ ap (λ slots. numbers_under hash (filter (λ s. nat_le hash s.hash) slots)) c.self.view_is
+    ∙ ap (numbers_under hash) (keys-from hash c.slots.result.now)
+    ∙ ap (λ slots. numbers_under hash (filter (λ s. nat_le hash s.hash) slots)) c.slots.ensures
     ∙ ap (λ h. numbers_of_hash h c.args.self.now) c.hash_of-hash.ensures
