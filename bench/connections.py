@@ -26,7 +26,7 @@ WINDOWS = (1, 64)
 SHARE, MOST = 0.75, 1.25
 
 # The rounds of the second table.
-ROUNDS = 7
+ROUNDS = 25
 
 
 def start(program: str, port: int, connections: int) -> subprocess.Popen:
