@@ -1,5 +1,36 @@
 -- Which abbreviations are of values that a pattern matches, of those that spell the whole of them.
-use Rattle.std.proofs.Common.{◌≡◌, ℕ, ◌+◌, ◌<◌, Bool, true, false, ◌&&◌, arith, drop, List, [], ◌∷◌, Option, Some, None, map, nat_eq, nat_cmp, bytes_eq, unwrap_or, refl, sym, ap, ◌∙◌}
+use Rattle.std.proofs.Common.{
+  ◌≡◌,
+  ℕ,
+  ◌+◌,
+  ◌<◌,
+  Bool,
+  true,
+  false,
+  ◌&&◌,
+  ◌==◌,
+  arith,
+  drop,
+  take,
+  length,
+  List,
+  [],
+  ◌∷◌,
+  Option,
+  Some,
+  None,
+  map,
+  nat_eq,
+  nat_cmp,
+  bytes_eq,
+  unwrap_or,
+  refl,
+  sym,
+  ap,
+  ◌∙◌,
+  subst,
+}
+use lib.Pointwise.{pointwise}
 use Rattle.std.specs.declared.cmp.Ordering.{Ordering}
 use Rattle.std.specs.declared.cmp.Ordering.TheVariants.{Less, Equal, Greater}
 use Rattle.std.specs.Ordering.{is_eq, is_le, is_lt, ordering_then, MatchOrdering}
@@ -19,7 +50,14 @@ use Rattle.attribute_index.specs.Abbreviations.{
 }
 use Rattle.attribute_index.specs.Bounds.{AreBounds, IsEnd, is_in, is_within}
 use Rattle.attribute_index.specs.Rows.{is_wanted}
-use Rattle.attribute_index.proofs.AbbreviationLaws.{are_raised, by_abbreviations_first, spelled_first, spelled_second, value_symbols}
+use Rattle.attribute_index.proofs.AbbreviationLaws.{
+  are_raised,
+  by_abbreviations_first,
+  spelled_first,
+  spelled_second,
+  symbols_cmp,
+  value_symbols,
+}
 use Rattle.attribute_index.proofs.RowLaws.{same_at}
 
 -- ---- symbols that begin with others

@@ -1,5 +1,29 @@
 -- The octets of UTF-8.
-use Rattle.std.proofs.Common.{◌≡◌, ℕ, ◌+◌, ◌/◌, ◌<◌, Bool, true, false, cond, arith, List, [], ◌∷◌, IsUtf8, ltb, ltb-true, inl, inr, refl, subst}
+use Rattle.std.proofs.Common.{
+  ◌≡◌,
+  ℕ,
+  ◌+◌,
+  ◌/◌,
+  ◌%◌,
+  ◌<◌,
+  Bool,
+  true,
+  false,
+  cond,
+  ◌&&◌,
+  arith,
+  List,
+  [],
+  ◌∷◌,
+  ◌++◌,
+  IsUtf8,
+  ltb,
+  ltb-true,
+  inl,
+  inr,
+  refl,
+  subst,
+}
 use lib.Utf8.{scalar, scalars, encode, encodes, next, scalar_cases}
 use Rattle.std.proofs.lemmas.Bool.{and_parts}
 use Rattle.rd_base.proofs.lemmas.Each.{each_append}

@@ -15,7 +15,6 @@ use Rattle.std.proofs.Common.{
   Some,
   None,
   is_some,
-  option_map,
   map,
   filter,
   nat_eq,
@@ -27,13 +26,14 @@ use Rattle.std.proofs.Common.{
   ◌∙◌,
   not,
 }
+use Rattle.std.specs.declared.cmp.Ordering.{Ordering}
 use Rattle.std.specs.declared.cmp.Ordering.TheVariants.{Less}
-use Rattle.std.specs.Ordering.{is_eq}
+use Rattle.std.specs.Ordering.{is_eq, ordering_then}
 use Rattle.std.specs.Cmp.Lexicographic.{slice_cmp}
 use Rattle.std.specs.Cmp.{IsTotalOrder, tied_then, unsigned_ties, nat_cmp_total}
 use Rattle.std.specs.List.{AllByRecursion}
-use Rattle.std.specs.Map.{lookup}
-use Rattle.std.specs.BTreeMap.{is_at}
+use Rattle.std.specs.Map.{lookup, remove_entry}
+use Rattle.std.specs.BTreeMap.{insert_entry, is_at}
 use Rattle.std.proofs.lemmas.Cmp.{nat_list_cmp_total, then_total, on_total}
 use Rattle.std.proofs.Math.Bool.{or_assoc}
 use Rattle.std.proofs.lemmas.Map.Text.{is_eq-slice_cmp}
@@ -95,7 +95,7 @@ and_same true b c = refl
 and_same false b c = refl
 
 -- and so are rows
-pub same_row_at : (q k : Row) → is_at (row_cmp q) k ≡ is_same (entry_of q) (entry_of k)
+same_row_at : (q k : Row) → is_at (row_cmp q) k ≡ is_same (entry_of q) (entry_of k)
 same_row_at q k =
     sym (tied_then (value_cmp q.value k.value) (nat_cmp q.number k.number))
     ∙ ap (λ t. t && is_eq (nat_cmp q.number k.number)) (same_at q.value k.value)
@@ -110,12 +110,8 @@ or_none false = refl
 
 -- ---- which entries there are
 
-pub is_some-map : {X Y : Type 0} (f : X → Y) (o : Option X) → is_some o ≡ is_some (option_map f o)
-is_some-map f None = refl
-is_some-map f (Some x) = refl
-
 -- an entry is in rows where its row is a key of the map
-pub has_in_rows : (rows : List (Row × Unit {0})) (e : Entry)
+has_in_rows : (rows : List (Row × Unit {0})) (e : Entry)
     → has_entry (entries_of_rows rows) e ≡ is_some (lookup (is_at (row_cmp (row_of e))) rows)
 has_in_rows [] e = refl
 has_in_rows (row ∷ rows) e =

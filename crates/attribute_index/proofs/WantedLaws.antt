@@ -36,11 +36,12 @@ use Rattle.std.specs.Ordering.{is_le, is_eq, ordering_then, MatchOrdering}
 use Rattle.std.specs.Cmp.Lexicographic.{slice_cmp}
 use Rattle.std.specs.Cmp.{tied_itself, ranks, nat_cmp_total}
 use Rattle.std.specs.List.{starts_with, AllByRecursion}
+use Rattle.std.specs.BTreeMap.Range.{entries_from}
 use Rattle.std.proofs.lemmas.Cmp.{nat_list_cmp_total}
 use Rattle.std.proofs.lemmas.Bool.{and_parts, and_from, eqb-true, eq-eqb, false≢true}
 use Rattle.std.proofs.lemmas.Slice.Eq.{bytes_eq-Decides}
-use Rattle.rd_base.proofs.lemmas.Each.{each_weaker}
-use Rattle.rd_base.proofs.lemmas.Filters.{filter_none}
+use Rattle.rd_base.proofs.lemmas.Each.{each_weaker, each_filter}
+use Rattle.rd_base.proofs.lemmas.Filters.{filter_stronger, filter_none}
 use Rattle.record_model.specs.Matching.{before_wildcard, is_value_of, matches_value}
 use Rattle.chunk_map.specs.Sorted as sorted
 use Rattle.attribute_index.specs.declared.rows.Row.{Row}
@@ -195,7 +196,7 @@ wanted_between name pattern value other h below matches =
 -- ---- rows
 
 -- a wanted row does not stand before the first that may be
-pub row_behind : (name pattern : List ℕ) (row : Row) → is_wanted name pattern row.value ≡ true
+row_behind : (name pattern : List ℕ) (row : Row) → is_wanted name pattern row.value ≡ true
     → is_le (row_cmp (first_row name pattern) row) ≡ true
 row_behind name pattern row h =
     by (value_cmp (first_wanted name pattern) row.value) (nat_cmp 0 row.number)
@@ -211,6 +212,16 @@ row_behind name pattern row h =
     by Less s k l = refl
     by Equal s k l = l
     by Greater s k l = k
+
+-- the rows from the first that may be wanted on have the same wanted numbers
+pub wanted_from : (name pattern : List ℕ) (rows : List (Row × Unit {0}))
+    → wanted_numbers name pattern (entries_from (row_cmp (first_row name pattern)) rows)
+    ≡ wanted_numbers name pattern rows
+wanted_from name pattern rows =
+    ap (λ some. map (λ (row : Row × Unit {0}). row.0.number) some)
+    (filter_stronger (λ row. is_wanted name pattern row.0.value)
+    (λ row. is_le (row_cmp (first_row name pattern) row.0))
+    (λ row h. row_behind name pattern row.0 h) rows)
 
 none_behind : (name pattern : List ℕ) (row : Row × Unit {0}) (rows : List (Row × Unit {0}))
     → is_le (row_cmp (first_row name pattern) row.0) ≡ true
@@ -232,18 +243,28 @@ none_behind name pattern row rows h up not_wanted =
         (less_le (row_cmp row.0 other.0) less)) wanted))
     by other less false wanted = wanted
 
--- among rows of which none stands before the first that may be wanted, the wanted ones stand in
--- front
+-- in the rows from the first that may be wanted on the wanted ones stand in front
 pub wanted_first : (name pattern : List ℕ) (rows : List (Row × Unit {0}))
     → sorted.IsAscending row_cmp rows
-    → AllByRecursion (λ row. is_le (row_cmp (first_row name pattern) row.0) ≡ true) rows
-    → WantedFirst name pattern rows
+    → WantedFirst name pattern (entries_from (row_cmp (first_row name pattern)) rows)
 unfolding WantedFirst sorted.IsAscending
-wanted_first name pattern [] up behind = tt
-wanted_first name pattern (row ∷ rows) up behind = (
-  λ not_wanted. none_behind name pattern row rows behind.0 up.0 not_wanted,
-  wanted_first name pattern rows up.1 behind.1,
-)
+wanted_first name pattern [] up = tt
+wanted_first name pattern (row ∷ rows) up =
+    by (is_le (row_cmp (first_row name pattern) row.0)) refl (wanted_first name pattern rows up.1)
+  where
+    by : (t : Bool) → is_le (row_cmp (first_row name pattern) row.0) ≡ t
+        → WantedFirst name pattern (entries_from (row_cmp (first_row name pattern)) rows)
+        → WantedFirst name pattern
+        (cond t (row ∷ entries_from (row_cmp (first_row name pattern)) rows)
+        (entries_from (row_cmp (first_row name pattern)) rows))
+    by true h more = (
+      λ not_wanted. none_behind name pattern row
+          (entries_from (row_cmp (first_row name pattern)) rows) h
+          (each_filter (λ other. row_cmp row.0 other.0 ≡ Less)
+          (λ other. is_le (row_cmp (first_row name pattern) other.0)) rows up.0) not_wanted,
+      more,
+    )
+    by false h more = more
 
 -- ---- one row after another
 

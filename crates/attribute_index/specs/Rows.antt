@@ -24,7 +24,6 @@ use lib.Pointwise.{pointwise}
 use Rattle.std.specs.List.{AllByRecursion}
 use Rattle.std.specs.declared.cmp.Ordering.{Ordering}
 use Rattle.std.specs.Ordering.{nat_cmp, ordering_then}
-use Rattle.std.specs.BTreeMap.{insert_entry}
 use Rattle.std.specs.Cmp.Lexicographic.{slice_cmp}
 use Rattle.record_model.specs.Matching.{before_wildcard, matches_value}
 use Rattle.attribute_index.specs.declared.rows.Edit.{Edit}
@@ -50,20 +49,6 @@ entry_of row = record { name = row.value.0; value = row.value.1; number = row.nu
 -- Returns the entries of all rows, which are keys of a map.
 abbrev pub entries_of_rows : List (Row × Unit {0}) → List Entry
 entries_of_rows rows = map (λ row. entry_of row.0) rows
-
--- Returns the rows of two maps, each once, in order.
-abbrev pub joined : List (Row × Unit {0}) → List (Row × Unit {0}) → List (Row × Unit {0})
-joined [] settled = settled
-joined (row ∷ young) settled = insert_entry row_cmp (joined young settled) row.0 tt
-
--- Returns the rows with this one before them, if there is one.
-abbrev pub with_first : Option Row → List (Row × Unit {0}) → List (Row × Unit {0})
-with_first None rows = rows
-with_first (Some row) rows = (row, tt) ∷ rows
-
--- States that the rows begin with this one.
-abbrev pub BeginsBy : Row → List (Row × Unit {0}) → Type 0
-BeginsBy row rows = (rest : List (Row × Unit {0})) × (rows ≡ (row, tt) ∷ rest)
 
 -- Returns the entries of these values of a name, for the record with this number.
 abbrev pub entries_under_name : List ℕ → List (List ℕ) → ℕ → List Entry

@@ -2,18 +2,16 @@
 ghost use Rattle.std.specs.Prelude.{◌≡◌, ◌+◌, [], ◌∷◌, IfSome, IfNone};
 ghost use Rattle.attribute_index.specs.Bounds.{AreBounds};
 ghost use Rattle.attribute_index.specs.Rows as spec;
-ghost use Rattle.chunk_map.specs.Sorted.{IsAscending};
-ghost use Rattle.attribute_index.specs.Rows.{WantedFirst, joined, row_cmp, wanted_numbers};
+ghost use Rattle.attribute_index.specs.Rows.{WantedFirst, wanted_numbers};
 
 use crate::bounds::Bounds;
-use crate::row_cursors::{RowCursor, next_of_both};
-use crate::rows::Row;
+use crate::rows::{Row, next_row};
 use crate::values::Value;
 use chunk_map::RangeIter;
 use listing::matches_value;
 use rd_base::{Steps, Text};
-use std::marker::Model;
-use std::sync::ledger::Ledger;
+use std::marker::{Brand, Model};
+use std::sync::ledger::{Blank, Ledger};
 
 /// A cursor over numbers of records. Contracts see it as the numbers that are left, in order.
 #[derive(Drop)]
@@ -24,22 +22,20 @@ pub struct Carriers<'a> {
     pattern: Text,
     /// The range of abbreviations of values sought.
     bounds: Bounds,
-    /// The latest rows that are left. Together with the others, they begin with those sought.
-    young: RowCursor<'a>,
-    /// The other rows that are left.
-    settled: RowCursor<'a>,
+    /// The rows that are left, beginning with those sought.
+    rows: RangeIter<'a, Row, ()>,
 }
 
 impl<'a> Model for Carriers<'a> {
     ghost use Rattle.std.specs.Prelude.{ℕ, List};
     ghost use Rattle.attribute_index.specs.Bounds.{AreBounds};
-    ghost use Rattle.attribute_index.specs.Rows.{joined, wanted_numbers, WantedFirst};
+    ghost use Rattle.attribute_index.specs.Rows.{wanted_numbers, WantedFirst};
 
     ghost Value = { List ℕ };
 
-    ghost view = { λ c. wanted_numbers c.name c.pattern (joined c.young c.settled) };
+    ghost view = { λ c. wanted_numbers c.name c.pattern c.rows };
 
-    ghost invariant = { λ c. WantedFirst c.name c.pattern (joined c.young c.settled)
+    ghost invariant = { λ c. WantedFirst c.name c.pattern c.rows
         × AreBounds c.bounds c.name c.pattern };
 }
 
@@ -56,24 +52,22 @@ fn is_wanted(name: &str, pattern: &str, bounds: &Bounds, value: &Value) -> bool
 
 /// Returns the number of the next row if its value is sought. Returns `None` if and only if no row
 /// with such a value is left.
-fn next_wanted<'a>(
+fn next_wanted(
     name: &str,
     pattern: &str,
     bounds: &Bounds,
-    young: &mut RowCursor<'a>,
-    settled: &mut RowCursor<'a>,
+    rows: &mut RangeIter<'_, Row, ()>,
 ) -> Option<u64>
-    requires first { WantedFirst name.now pattern.now (joined young.old settled.old) }
+    requires first { WantedFirst name.now pattern.now rows.old }
     requires bounds { AreBounds bounds.now name.now pattern.now }
-    ensures next { IfSome result
-        (λ number. wanted_numbers name.now pattern.now (joined young.old settled.old)
-        ≡ number ∷ wanted_numbers name.now pattern.now (joined young.new settled.new)) }
+    ensures next { IfSome result (λ number. wanted_numbers name.now pattern.now rows.old
+        ≡ number ∷ wanted_numbers name.now pattern.now rows.new) }
     ensures end { IfNone result
-        ((wanted_numbers name.now pattern.now (joined young.old settled.old) ≡ [])
-        × (wanted_numbers name.now pattern.now (joined young.new settled.new) ≡ [])) }
-    ensures first { WantedFirst name.now pattern.now (joined young.new settled.new) }
+        ((wanted_numbers name.now pattern.now rows.old ≡ [])
+        × (wanted_numbers name.now pattern.now rows.new ≡ [])) }
+    ensures first { WantedFirst name.now pattern.now rows.new }
 {
-    let row = next_of_both(young, settled)?;
+    let row = next_row::<Brand>(Blank::new(1), rows)?;
     if !is_wanted(name, pattern, bounds, &row.value) {
         return None;
     }
@@ -82,26 +76,16 @@ fn next_wanted<'a>(
 
 impl<'a> Carriers<'a> {
     /// Creates a cursor over the numbers of those rows whose values are sought.
-    pub(crate) fn over(
-        name: Text,
-        pattern: Text,
-        young: RangeIter<'a, Row, ()>,
-        settled: RangeIter<'a, Row, ()>,
-    ) -> Carriers<'a>
-        requires first { WantedFirst name pattern (joined young settled) }
-        requires young { IsAscending row_cmp young }
-        requires settled { IsAscending row_cmp settled }
-        ensures { result ≡ wanted_numbers name pattern (joined young.entry settled.entry) }
+    pub(crate) fn over(name: Text, pattern: Text, rows: RangeIter<'a, Row, ()>) -> Carriers<'a>
+        requires { WantedFirst name pattern rows }
+        ensures { result ≡ wanted_numbers name pattern rows.entry }
     {
         let bounds = Bounds::of(name.as_str(), pattern.as_str());
-        let young = RowCursor::over(young);
-        let settled = RowCursor::over(settled);
         Carriers {
             name,
             pattern,
             bounds,
-            young,
-            settled,
+            rows,
         }
     }
 
@@ -119,8 +103,7 @@ impl<'a> Carriers<'a> {
             self.name.as_str(),
             self.pattern.as_str(),
             &self.bounds,
-            &mut self.young,
-            &mut self.settled,
+            &mut self.rows,
         )
     }
 }

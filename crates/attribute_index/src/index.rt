@@ -11,7 +11,7 @@ ghost use Rattle.attribute_index.specs.Entries.{
 };
 
 use crate::Carriers;
-use crate::rows::{Edit, Row, Rows, edited, settled_with};
+use crate::rows::{Edit, Row, Rows, edited};
 use crate::values::Value;
 use chunk_map::ChunkMap;
 use listing::before_wildcard;
@@ -30,34 +30,24 @@ use std::marker::Model;
 ///
 /// Contracts see an index as the list of its entries, in ascending order and without duplicates. An
 /// entry is a name, a value and a number.
-///
-/// The rows of an index are in two maps. The latest go into a small map, which is cheap to copy.
-/// When it is full, all its rows move to the large map at once, so that each part of the large map
-/// is copied once for many rows.
 #[derive(Drop)]
 pub struct AttributeIndex {
-    /// The latest rows: each value with each number of a record that carries it.
-    young: Rows,
-    /// The other rows. A row may be in both maps.
-    settled: Rows,
+    /// The rows: each value with each number of a record that carries it.
+    rows: Rows,
 }
 
 impl Model for AttributeIndex {
     ghost use Rattle.std.specs.Prelude.{List};
     ghost use Rattle.chunk_map.specs.Sorted as sorted;
     ghost use Rattle.attribute_index.specs.Entries.{Entry};
-    ghost use Rattle.attribute_index.specs.Rows.{row_cmp, entries_of_rows, joined};
+    ghost use Rattle.attribute_index.specs.Rows.{row_cmp, entries_of_rows};
 
     ghost Value = { List Entry };
 
-    ghost view = { λ a. entries_of_rows (joined a.young a.settled) };
+    ghost view = { λ a. entries_of_rows a.rows };
 
-    ghost invariant = { λ a. sorted.IsAscending row_cmp a.young
-        × sorted.IsAscending row_cmp a.settled };
+    ghost invariant = { λ a. sorted.IsAscending row_cmp a.rows };
 }
-
-/// How many rows the map of the latest rows has when they move to the other map.
-const MOST_YOUNG: u64 = 40;
 
 /// Returns where the values that a pattern of a name matches begin: at the text before its
 /// wildcard, or at the pattern.
@@ -81,8 +71,7 @@ impl AttributeIndex {
         ensures { IfOk result (λ index. index ≡ []) }
     {
         Ok(AttributeIndex {
-            young: ChunkMap::empty(alloc)?,
-            settled: ChunkMap::empty(alloc)?,
+            rows: ChunkMap::empty(alloc)?,
         })
     }
 
@@ -95,22 +84,9 @@ impl AttributeIndex {
         ensures same { IfOk result (λ index. index ≡ self.now) }
         ensures ascends { IfOk result (λ index. IsAscending index) }
     {
-        let young = self.young.share()?;
-        let settled = self.settled.share()?;
-        Ok(AttributeIndex { young, settled })
-    }
-
-    /// Consumes this index and returns it with room for one more of the latest rows.
-    fn with_room(self, alloc: Global) -> Result<AttributeIndex, Starved>
-        ensures { IfOk result (λ index. (e : Entry) → has_entry index e ≡ has_entry self e) }
-    {
-        if self.young.len() < MOST_YOUNG {
-            return Ok(self);
-        }
-        let AttributeIndex { young, settled } = self;
-        let settled = settled_with(settled, &young)?;
-        let young = ChunkMap::empty(alloc)?;
-        Ok(AttributeIndex { young, settled })
+        Ok(AttributeIndex {
+            rows: self.rows.share()?,
+        })
     }
 
     /// Returns the index in which the record with this number carries this attribute, too. It has
@@ -129,7 +105,9 @@ impl AttributeIndex {
             ≡ (has_entry self.now e || has_entry (entries_of (pair_seen pair.now) number) e)) }
         ensures ascends { IfOk result (λ index. IsAscending index) }
     {
-        self.share(alloc)?.with(alloc, pair, number)
+        Ok(AttributeIndex {
+            rows: edited(alloc, self.rows.share()?, pair, number, Edit::Put)?,
+        })
     }
 
     /// Returns the index without the entries of this attribute of the record with this number.
@@ -151,7 +129,9 @@ impl AttributeIndex {
             (pair_seen pair.now) number) e))) }
         ensures ascends { IfOk result (λ index. IsAscending index) }
     {
-        self.share(alloc)?.without(alloc, pair, number)
+        Ok(AttributeIndex {
+            rows: edited(alloc, self.rows.share()?, pair, number, Edit::Take)?,
+        })
     }
 
     /// Consumes this index and returns it with this attribute of the record with this number, as
@@ -174,9 +154,10 @@ impl AttributeIndex {
             ≡ (has_entry self e || has_entry (entries_of (pair_seen pair.now) number) e)) }
         ensures ascends { IfOk result (λ index. IsAscending index) }
     {
-        let AttributeIndex { young, settled } = self.with_room(alloc)?;
-        let young = edited(alloc, young, pair, number, Edit::Put)?;
-        Ok(AttributeIndex { young, settled })
+        let AttributeIndex { rows } = self;
+        Ok(AttributeIndex {
+            rows: edited(alloc, rows, pair, number, Edit::Put)?,
+        })
     }
 
     /// Consumes this index and returns it without the entries of this attribute of the record with
@@ -198,10 +179,10 @@ impl AttributeIndex {
             ≡ (has_entry self e && not (has_entry (entries_of (pair_seen pair.now) number) e))) }
         ensures ascends { IfOk result (λ index. IsAscending index) }
     {
-        let AttributeIndex { young, settled } = self;
-        let young = edited(alloc, young, pair, number, Edit::Take)?;
-        let settled = edited(alloc, settled, pair, number, Edit::Take)?;
-        Ok(AttributeIndex { young, settled })
+        let AttributeIndex { rows } = self;
+        Ok(AttributeIndex {
+            rows: edited(alloc, rows, pair, number, Edit::Take)?,
+        })
     }
 
     /// Returns a cursor over the entries of this name whose values the pattern matches (RFC 6690
@@ -219,10 +200,9 @@ impl AttributeIndex {
         ensures { IfOk result (λ carriers. carriers ≡ carriers_of name.now pattern.now self.now) }
     {
         let from = first_wanted(alloc, name, pattern)?;
-        let young = self.young.range(&from);
-        let settled = self.settled.range(&from);
+        let rows = self.rows.range(&from);
         let name = Text::copy_of(alloc, name)?;
         let pattern = Text::copy_of(alloc, pattern)?;
-        Ok(Carriers::over(name, pattern, young, settled))
+        Ok(Carriers::over(name, pattern, rows))
     }
 }

@@ -5,7 +5,6 @@ mod abbreviations;
 mod bounds;
 mod carriers;
 mod index;
-mod row_cursors;
 mod rows;
 mod values;
 

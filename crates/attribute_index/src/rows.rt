@@ -1,10 +1,9 @@
 //! The rows of an index, and how they are edited, one value of a name at a time.
-ghost use Rattle.std.specs.Prelude.{◌≡◌, ◌<◌, ◌||◌, IfOk, IfSome, IfNone, [], ◌∷◌};
+ghost use Rattle.std.specs.Prelude.{◌≡◌, ◌<◌, IfOk, IfSome, IfNone, [], ◌∷◌};
 ghost use Rattle.chunk_map.specs.Sorted.{IsAscending};
 ghost use Rattle.rd_base.specs.PairRefs.{pair_seen};
 ghost use Rattle.record_model.specs.Matching.{parts_of};
 ghost use Rattle.attribute_index.specs.Entries.{Entry, entries_of, has_entry, is_same};
-ghost use Rattle.attribute_index.specs.declared.rows.Edit.TheVariants as edit_of;
 ghost use Rattle.attribute_index.specs.Rows.{
   after_edit,
   entries_of_rows,
@@ -103,29 +102,6 @@ fn shared_row(rows: &Rows, row: Row) -> Result<Row, Starved>
     Ok(Row { value, number })
 }
 
-/// Returns whether these rows have this row.
-fn has_row(rows: &Rows, row: &Row) -> bool
-    requires { IsAscending row_cmp rows.now }
-    ensures { result ≡ has_entry (entries_of_rows rows.now) (entry_of row.now) }
-{
-    rows.get(row).is_some()
-}
-
-/// Returns these rows without this row. If they do not have it, nothing is copied.
-fn without_row(rows: Rows, row: &Row) -> Result<Rows, Starved>
-    requires { IsAscending row_cmp rows }
-    ensures entries { IfOk result
-        (λ after. (e : Entry) → has_entry (entries_of_rows after) e
-        ≡ is_after edit_of.Take (has_entry (entries_of_rows rows) e)
-        (is_same e (entry_of row.now))) }
-    ensures ascends { IfOk result (λ after. IsAscending row_cmp after) }
-{
-    if !has_row(&rows, row) {
-        return Ok(rows);
-    }
-    edited_row(rows, row, Edit::Take)
-}
-
 /// Returns these rows after an edit of one row.
 fn edited_row(rows: Rows, row: &Row, edit: Edit) -> Result<Rows, Starved>
     requires { IsAscending row_cmp rows }
@@ -153,7 +129,7 @@ fn edited_long(rows: Rows, row: Row, edit: Edit) -> Result<Rows, Starved>
             Ok(after)
         }
         Edit::Take => {
-            let after = without_row(rows, &row)?;
+            let after = edited_row(rows, &row, Edit::Take)?;
             Ok(after)
         }
     }
@@ -173,26 +149,7 @@ fn edited_value(rows: Rows, value: Value, number: u64, edit: Edit) -> Result<Row
     if row.value.texts().is_some() {
         return edited_long(rows, row, edit);
     }
-    match edit {
-        Edit::Put => edited_row(rows, &row, Edit::Put),
-        Edit::Take => without_row(rows, &row),
-    }
-}
-
-/// Returns the settled rows with the young ones, too.
-pub(crate) fn settled_with(settled: Rows, young: &Rows) -> Result<Rows, Starved>
-    requires { IsAscending row_cmp settled }
-    ensures entries { IfOk result (λ after. (e : Entry) → has_entry (entries_of_rows after) e
-        ≡ (has_entry (entries_of_rows settled) e || has_entry (entries_of_rows young.now) e)) }
-    ensures ascends { IfOk result (λ after. IsAscending row_cmp after) }
-{
-    let mut after = settled;
-    let mut left = young.all();
-    'rows: while let Some(row) = next_row::<Brand>(Blank::new(1), &mut left) {
-        let value = row.value.share()?;
-        after = edited_value(after, value, row.number, Edit::Put)?;
-    }
-    Ok(after)
+    edited_row(rows, &row, edit)
 }
 
 /// Returns these rows, in which the record with this number now carries the parts of this value, or

@@ -1,6 +1,6 @@
 use Rattle.std.proofs.Common.{rules, ◌≡◌, true, false, ap, ◌∙◌, subst}
 use Rattle.attribute_index.specs.declared.rows.Row.{Row}
-use Rattle.attribute_index.specs.Rows.{WantedFirst, is_wanted, joined, wanted_numbers}
+use Rattle.attribute_index.specs.Rows.{WantedFirst, is_wanted, wanted_numbers}
 use Rattle.attribute_index.proofs.WantedLaws.{wanted_rest, wanted_end, wanted_next}
 use Rattle.attribute_index.proofs.carriers.next_wanted.Goals as goal
 
@@ -9,7 +9,7 @@ returns-then-not-is_wanted-clause-end c =
     let name = c.args.name.now in
     let pattern = c.args.pattern.now in
     let row : Row × Unit {0} = (c.in_ok-row.row.now, tt) in
-    let rows = joined c.next_of_both.new.young c.next_of_both.new.settled in
+    let rows = c.next_row.new.rows in
     let not_wanted : is_wanted name pattern c.in_ok-row.row.now.value ≡ false = search rules in
     let all = c.in_ok-row.ensures.next in
     let end = wanted_end name pattern row rows
@@ -20,8 +20,7 @@ pub returns-then-not-is_wanted-clause-first : goal.returns-then-not-is_wanted-cl
 returns-then-not-is_wanted-clause-first c =
     let name = c.args.name.now in
     let pattern = c.args.pattern.now in
-    wanted_rest name pattern (c.in_ok-row.row.now, tt)
-    (joined c.next_of_both.new.young c.next_of_both.new.settled)
+    wanted_rest name pattern (c.in_ok-row.row.now, tt) c.next_row.new.rows
     (subst (λ some. WantedFirst name pattern some) c.in_ok-row.ensures.next c.requires.first)
 
 pub returns-clause-next : goal.returns-clause-next
@@ -30,13 +29,11 @@ returns-clause-next c =
     let pattern = c.args.pattern.now in
     let wanted : is_wanted name pattern c.in_ok-row.row.now.value ≡ true = search rules in
     ap (λ some. wanted_numbers name pattern some) c.in_ok-row.ensures.next
-    ∙ wanted_next name pattern (c.in_ok-row.row.now, tt)
-    (joined c.next_of_both.new.young c.next_of_both.new.settled) wanted
+    ∙ wanted_next name pattern (c.in_ok-row.row.now, tt) c.next_row.new.rows wanted
 
 pub returns-clause-first : goal.returns-clause-first
 returns-clause-first c =
     let name = c.args.name.now in
     let pattern = c.args.pattern.now in
-    wanted_rest name pattern (c.in_ok-row.row.now, tt)
-    (joined c.next_of_both.new.young c.next_of_both.new.settled)
+    wanted_rest name pattern (c.in_ok-row.row.now, tt) c.next_row.new.rows
     (subst (λ some. WantedFirst name pattern some) c.in_ok-row.ensures.next c.requires.first)

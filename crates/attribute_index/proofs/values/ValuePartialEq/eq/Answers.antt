@@ -1,4 +1,4 @@
-use Rattle.std.proofs.Common.{ap, ◌∙◌}
+use Rattle.std.proofs.Common.{◌≡◌, ap, ◌∙◌}
 use Rattle.std.specs.Ordering.{is_eq}
 use Rattle.attribute_index.proofs.RowLaws.{same_at}
 use Rattle.attribute_index.proofs.values.ValuePartialEq.eq.Goals as goal

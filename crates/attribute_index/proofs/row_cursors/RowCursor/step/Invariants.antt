@@ -1,4 +1,0 @@
-use Rattle.attribute_index.proofs.row_cursors.RowCursor.step.Given as goal
-
-abbrev pub ghosts-next_row : goal.ghosts-next_row
-ghosts-next_row a = record { name = a.blank.name; parts = a.blank.parts }
