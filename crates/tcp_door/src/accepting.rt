@@ -73,10 +73,10 @@ impl<R: Clock + Copy> TcpAccept<R> {
         ensures same { self.new ≡ self.old }
         ensures peer { IfSome result (λ c. c.peer ≡ peer) }
     {
-        let (stream, other) = self.listening.accepted()?;
+        let (socket, other) = self.listening.accepted()?;
         Some(TcpConnection {
             peer,
-            source: TcpSource::of(self.clock, stream),
+            source: TcpSource::of(self.clock, socket),
             sink: TcpSink::of(other),
         })
     }

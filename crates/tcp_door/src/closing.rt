@@ -1,10 +1,7 @@
-//! The reads and writes of a connection, and its end.
-ghost use Rattle.std.specs.Prelude.{◌≡◌, ◌≤◌, length, IfOk};
-
+//! The end of a connection.
+use crate::sockets::Socket;
 use crate::stopwatch::Stopwatch;
-use std::io;
-use std::io::{ErrorKind, Read, Write};
-use std::net::{Shutdown, TcpStream};
+use std::io::ErrorKind;
 use std::time::Clock;
 
 /// The microseconds for which a connection that ends is read from.
@@ -22,40 +19,17 @@ pub(crate) fn is_pause(kind: ErrorKind) -> bool {
     matches!(kind, ErrorKind::WouldBlock | ErrorKind::Interrupted)
 }
 
-/// Reads once.
-pub(crate) fn read_once(stream: &TcpStream, into: &mut [u8]) -> io::Result<usize>
-    ensures within { IfOk result (λ n. n ≤ length into.new) }
-    ensures size { length into.new ≡ length into.old }
-{
-    let mut end = stream;
-    end.read(into)
-}
-
-/// Writes once, and begins again if a signal interrupted it.
-pub(crate) fn write_some(stream: &TcpStream, piece: &[u8]) -> io::Result<usize>
-    ensures { IfOk result (λ n. n ≤ length piece.now) }
-{
-    let mut end = stream;
-    'writings: for _ in 0..u64::MAX {
-        match end.write(piece) {
-            Err(error) if error.kind() == ErrorKind::Interrupted => {}
-            written => return written,
-        }
-    }
-    Err(io::Error::from(ErrorKind::Interrupted))
-}
-
 /// Reads and drops what still arrives, up to the peer's end, for at most two seconds or 64 KiB.
 ///
 /// So what was written is delivered. A system that closes a connection with unread octets resets
 /// it, and the peer may lose what it has not read yet (RFC 1122 section 4.2.2.13).
-fn drain<R: Clock>(stream: &TcpStream, stopwatch: &mut Stopwatch<R>) {
+fn drain<R: Clock>(socket: &Socket, stopwatch: &mut Stopwatch<R>) {
     let mut room = [0u8; ROOM];
     let mut left = MOST_DROPPED;
     let mut waited = 0u64;
     let _ = stopwatch.lap();
     'readings: for _ in 0..u64::MAX {
-        match read_once(stream, &mut room) {
+        match socket.read(&mut room) {
             Ok(0) => return,
             Ok(count) => left = left.saturating_sub(count),
             Err(error) if is_pause(error.kind()) => {}
@@ -69,8 +43,8 @@ fn drain<R: Clock>(stream: &TcpStream, stopwatch: &mut Stopwatch<R>) {
 }
 
 /// Ends a connection: writes nothing more, and drops what still arrives for a while.
-pub(crate) fn close<R: Clock>(stream: &TcpStream, stopwatch: &mut Stopwatch<R>) {
-    if stream.shutdown(Shutdown::Write).is_ok() {
-        drain(stream, stopwatch);
+pub(crate) fn close<R: Clock>(socket: &Socket, stopwatch: &mut Stopwatch<R>) {
+    if socket.finish() {
+        drain(socket, stopwatch);
     }
 }

@@ -10,6 +10,7 @@ mod listening;
 mod patience;
 mod peers;
 mod sinks;
+mod sockets;
 mod sources;
 mod stopwatch;
 

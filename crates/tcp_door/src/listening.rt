@@ -1,5 +1,6 @@
 //! A listener that accepts connections.
 use crate::sinks::TcpSink;
+use crate::sockets::Socket;
 use crate::sources::TcpSource;
 use std::alloc::Global;
 use std::io::ErrorKind;
@@ -58,7 +59,7 @@ fn refusal_of(error: &io::Error) -> Refusal {
 }
 
 /// The two handles of a connection.
-pub(crate) type Shared = (Arc<TcpStream>, Arc<TcpStream>);
+pub(crate) type Shared = (Arc<Socket>, Arc<Socket>);
 
 /// Shares a connection, and limits how long its reads and writes wait. Each write is sent at once,
 /// if the connection accepts that mode. Otherwise the system keeps a response back until the client
@@ -71,9 +72,9 @@ fn shared(alloc: Global, stream: TcpStream) -> Option<Shared> {
     if reading.is_err() || writing.is_err() {
         return None;
     }
-    let stream = Arc::new(alloc, stream).ok()?;
-    let other = Arc::try_clone(&stream).ok()?;
-    Some((stream, other))
+    let socket = Arc::new(alloc, Socket::of(alloc, stream)?).ok()?;
+    let other = Arc::try_clone(&socket).ok()?;
+    Some((socket, other))
 }
 
 /// A listener that is polled for connections.
@@ -159,8 +160,8 @@ pub struct TcpCaller {
 impl TcpCaller {
     /// Returns the source and the sink of the connection.
     pub fn into_ends<R: Clock + Copy>(self, clock: R) -> (TcpSource<R>, TcpSink) {
-        let (stream, other) = self.ends;
-        (TcpSource::of(clock, stream), TcpSink::of(other))
+        let (socket, other) = self.ends;
+        (TcpSource::of(clock, socket), TcpSink::of(other))
     }
 }
 

@@ -2,11 +2,11 @@
 ghost use Rattle.std.specs.Prelude.{◌≡◌, ◌≤◌, ◌^◌, None, length, IfSome};
 ghost use Rattle.tcp_door.specs.Awaiting.{IsWithinPiece};
 
-use crate::closing::{close, is_pause, read_once, write_some};
+use crate::closing::{close, is_pause};
 use crate::patience::Patience;
+use crate::sockets::Socket;
 use crate::stopwatch::Stopwatch;
 use rd_base::{Got, Source};
-use std::net::{Shutdown, TcpStream};
 use std::sync::Arc;
 use std::time::Clock;
 
@@ -19,8 +19,11 @@ const TURNS: u64 = 1 << 40;
 /// the first within 10 s, and each later one within 60 s. The time in which the process was stopped
 /// does not count. When the source is dropped after such a wait, it sends the peer a Release or an
 /// Abort. Dropping it ends the connection so that what was written is delivered.
+///
+/// Before each wait for octets, what was written to the sink of the connection is sent. A read fails
+/// if the peer takes nothing of it for 5 s.
 pub struct TcpSource<R: Clock + Copy> {
-    stream: Arc<TcpStream>,
+    socket: Arc<Socket>,
     patience: Patience,
     stopwatch: Stopwatch<R>,
     turns: u64,
@@ -36,20 +39,20 @@ pub enum Awaited {
     Bytes(usize),
     /// Nothing came meanwhile.
     Nothing,
-    /// The read failed.
+    /// The read failed, or what was written before could not be sent.
     Failed,
 }
 
 impl<R: Clock + Copy> TcpSource<R> {
     /// Creates the source that reads from a connection whose reads wait for 50 ms. After 2^40 calls
     /// that returned octets, each call fails.
-    pub(crate) fn of(clock: R, stream: Arc<TcpStream>) -> TcpSource<R>
+    pub(crate) fn of(clock: R, socket: Arc<Socket>) -> TcpSource<R>
         ensures left { ⟦<TcpSource<R> as Source>⟧.left result ≡ None }
         ensures unfailed { ⟦<TcpSource<R> as Source>⟧.faults result ≡ 0 }
         ensures turns { ⟦<TcpSource<R> as Source>⟧.turns result ≡ 2 ^ 40 }
     {
         TcpSource {
-            stream,
+            socket,
             patience: Patience::new(),
             stopwatch: Stopwatch::new(clock),
             turns: TURNS,
@@ -58,12 +61,13 @@ impl<R: Clock + Copy> TcpSource<R> {
         }
     }
 
-    /// Waits for octets for 50 ms at most. It does not count calls and faults, as `read` does.
+    /// Sends what was written, and waits for octets for 50 ms at most. It does not count calls and
+    /// faults, as `read` does.
     pub fn wait(&mut self, into: &mut [u8]) -> Awaited
         ensures within { IsWithinPiece result (length into.old) }
         ensures left { ⟦<TcpSource<R> as Source>⟧.left self.new ≡ None }
     {
-        wait_once(&self.stream, &mut self.patience, &mut self.stopwatch, into)
+        wait_once(&self.socket, &mut self.patience, &mut self.stopwatch, into)
     }
 
     /// Tells the peer that the server ends, when the source is dropped, and does not wait for it.
@@ -80,9 +84,9 @@ fn heed<R: Clock + Copy>(patience: &mut Patience, stopwatch: &mut Stopwatch<R>, 
     patience.pass(stopwatch.lap());
 }
 
-/// Waits for octets for 50 ms at most.
+/// Sends what was written, and waits for octets for 50 ms at most.
 fn wait_once<R: Clock + Copy>(
-    stream: &TcpStream,
+    socket: &Socket,
     patience: &mut Patience,
     stopwatch: &mut Stopwatch<R>,
     into: &mut [u8],
@@ -92,7 +96,10 @@ fn wait_once<R: Clock + Copy>(
     if patience.is_over() {
         return Awaited::Bytes(0);
     }
-    match read_once(stream, into) {
+    if !socket.send() {
+        return Awaited::Failed;
+    }
+    match socket.read(into) {
         Ok(count) => {
             heed(patience, stopwatch, &into[..count]);
             Awaited::Bytes(count)
@@ -105,10 +112,10 @@ fn wait_once<R: Clock + Copy>(
     }
 }
 
-/// Waits for octets, and returns how many arrived. Returns 0 at the end, and once the time that a
-/// message may take has passed. Returns `None` if the read failed.
+/// Sends what was written, waits for octets, and returns how many arrived. Returns 0 at the end, and
+/// once the time that a message may take has passed. Returns `None` if the read or a write failed.
 fn received<R: Clock + Copy>(
-    stream: &TcpStream,
+    socket: &Socket,
     patience: &mut Patience,
     stopwatch: &mut Stopwatch<R>,
     into: &mut [u8],
@@ -116,7 +123,7 @@ fn received<R: Clock + Copy>(
     ensures { IfSome result (λ n. n ≤ length into.old) }
 {
     'readings: for _ in 0..u64::MAX {
-        match wait_once(stream, patience, stopwatch, into) {
+        match wait_once(socket, patience, stopwatch, into) {
             Awaited::Bytes(count) => return Some(count),
             Awaited::Nothing => {}
             Awaited::Failed => return None,
@@ -134,7 +141,7 @@ impl<R: Clock + Copy> Source for TcpSource<R> {
 
     fn read(&mut self, into: &mut [u8]) -> Got {
         if self.turns > 0 {
-            let came = received(&self.stream, &mut self.patience, &mut self.stopwatch, into);
+            let came = received(&self.socket, &mut self.patience, &mut self.stopwatch, into);
             if let Some(count) = came {
                 self.turns -= 1;
                 return Got::Bytes(count);
@@ -148,15 +155,16 @@ impl<R: Clock + Copy> Source for TcpSource<R> {
 impl<R: Clock + Copy> Drop for TcpSource<R> {
     fn drop(mut self) {
         if self.hurried || self.patience.is_over() {
-            let _ = write_some(&self.stream, &[0, self.patience.farewell()]);
+            let _ = self.socket.take(&[0, self.patience.farewell()]);
         }
+        let _ = self.socket.send();
         if self.hurried {
-            let _ = self.stream.shutdown(Shutdown::Write);
+            let _ = self.socket.finish();
         } else {
-            close(&self.stream, &mut self.stopwatch);
+            close(&self.socket, &mut self.stopwatch);
         }
         let TcpSource {
-            stream: _,
+            socket: _,
             patience: _,
             stopwatch: _,
             turns: _,
