@@ -25,7 +25,7 @@ SERVED, OPENED = 15, 16
 LIMIT, SHORT, FIRST_LIMIT = 10, 0.5, 10
 
 # Codes and options (RFC 8323 section 5, RFC 7252 sections 12.1 and 5.10, RFC 7959 section 2.1).
-CSM, PING, PONG, ABORT = 0xE1, 0xE2, 0xE3, 0xE5
+CSM, PING, PONG, RELEASE, ABORT = 0xE1, 0xE2, 0xE3, 0xE4, 0xE5
 GET, POST, CREATED, CONTENT = 0x01, 0x02, 0x41, 0x45
 URI_PATH, CONTENT_FORMAT, URI_QUERY, BLOCK2 = 11, 12, 15, 23
 LONG, LONGER = 13, 269
@@ -35,6 +35,10 @@ OFFER = "10e140"
 
 # The most octets of a message to a client with this limit, and the devices that fill a listing.
 FEW, DEVICES = 200, 12
+
+# The number of requests that are sent together. Their responses are longer than the 4,096 octets
+# that the server holds back at most.
+TOGETHER = 40
 
 
 def extended(number: int) -> tuple[int, bytes]:
@@ -70,11 +74,11 @@ def registration(name: str) -> bytes:
     return message(POST, b"\x01", tail_of(options, f'</{name}>;rt="t-{name}"'.encode()))
 
 
-def lookup(*query: str) -> bytes:
+def lookup(*query: str, token: bytes = b"\x02") -> bytes:
     """Returns a lookup of resources (RFC 9176 section 6)."""
     options = [(URI_PATH, b"rd-lookup"), (URI_PATH, b"res")]
     options += [(URI_QUERY, each.encode()) for each in query]
-    return message(GET, b"\x02", tail_of(options))
+    return message(GET, token, tail_of(options))
 
 
 class Connection:
@@ -122,11 +126,18 @@ class Connection:
         return end if len(self.rest) >= end else 0
 
 
+def parts_of(octets: bytes) -> tuple[int, bytes, bytes]:
+    """Returns the code and the token of a message, and what follows them."""
+    if not octets:
+        return 0, b"", b""
+    at = {13: 2, 14: 3}.get(octets[0] >> 4, 1)
+    end = at + 1 + (octets[0] & 15)
+    return octets[at], octets[at + 1:end], octets[end:]
+
+
 def code_of(octets: bytes) -> int:
     """Returns the code of a message."""
-    if not octets:
-        return 0
-    return octets[{13: 2, 14: 3}.get(octets[0] >> 4, 1)]
+    return parts_of(octets)[0]
 
 
 def start(run) -> str:
@@ -198,6 +209,24 @@ def short_messages(run, words: str):
              ["a block of 128 octets" if is_block else came.hex() or "nothing"])
 
 
+def together(run, words: str):
+    """Checks that requests that are sent together are all answered, in order, before the end."""
+    tokens = [bytes([place]) for place in range(TOGETHER)]
+    with Connection(run.port("server")) as asking:
+        asking.comes()
+        asking.sends(b"".join(lookup("rt=t-short*", token=token) for token in tokens)
+                     + message(RELEASE))
+        came = [parts_of(asking.comes()) for _ in tokens]
+        after = asking.comes()
+    wanted = [(CONTENT, token, came[0][2]) for token in tokens]
+    devices = came[0][2].count(b"rt=")
+    run.tell(f"{TOGETHER} lookups sent together are answered in order", words,
+             ["each with its token", f"{DEVICES} devices in each"],
+             ["each with its token" if came == wanted else f"{came}", f"{devices} devices in each"])
+    run.tell("a Release after them ends the connection", words, ["the end"],
+             [after.hex() or "the end"])
+
+
 def many(run, words: str):
     """Opens sixteen connections at once: one of them waits until another ends."""
     port = run.port("server")
@@ -252,6 +281,7 @@ def run(run_of_cases):
     across_transports(run_of_cases)
     signals(run_of_cases, words)
     short_messages(run_of_cases, words)
+    together(run_of_cases, words)
     many(run_of_cases, words)
     silent(run_of_cases, words)
     run_of_cases.end_server()
