@@ -4,19 +4,21 @@
 rd_host serves one directory of 64 registrations over UDP and TCP (RFC 8323). The first table has
 the lookups per second of one connection and of N connections. Each client is a process of its own
 that waits for each answer, or has 64 requests in progress. The default of N is 2. The second table
-has the processor time of the server for each lookup over TCP and over UDP: the least of several
-rounds, in which both alternate. The status is 1 if a lookup was not answered with its link.
+has the processor time of the server for each lookup over TCP and over UDP. What a line compares
+alternates for several rounds, and each figure is a median of them: also the last one, which is of
+the ratios. The status is 1 if a lookup was not answered with its link.
 """
 
 import argparse
 import multiprocessing
+import statistics
 import subprocess
 import sys
 import time
 from pathlib import Path
 
-from streams import (CONTENT, CREATED, HOST, LOOKUPS, NAMES, Missing, OverTcp, OverUdp, exchanged,
-                     lookup, nanoseconds, opened, registration)
+from streams import (CONTENT, CREATED, HOST, NAMES, Missing, OverTcp, OverUdp, exchanged, lookup,
+                     nanoseconds, opened, registration)
 
 PORT = 27_100
 
@@ -25,8 +27,9 @@ PORT = 27_100
 WINDOWS = (1, 64)
 SHARE, MOST = 0.75, 1.25
 
-# The rounds of the second table.
-ROUNDS = 25
+# The lookups of a client in a round, and the rounds of the first table and of the second.
+LOOKUPS = 8_000
+RATES, ROUNDS = 9, 40
 
 
 def start(program: str, port: int, connections: int) -> subprocess.Popen:
@@ -87,6 +90,11 @@ def cost(program: str, port: int, window: int, kind) -> float:
         server.wait()
 
 
+def medians(rounds: list[tuple[float, float, float]]) -> list[float]:
+    """Returns the median of each figure of several rounds."""
+    return [statistics.median(figures) for figures in zip(*rounds)]
+
+
 def judged(is_met: bool, wanted: str) -> str:
     """Returns a wanted figure, and whether it is met."""
     return f"{wanted}: {'yes' if is_met else 'no'}"
@@ -100,18 +108,20 @@ def main():
     program, number, port = str(Path(said.program).resolve()), said.connections, PORT
     print(f"{'requests at a time':>18}{'one, 1/s':>12}{f'{number}, 1/s':>12}{'times':>8}  wanted")
     for window in WINDOWS:
-        one, many = rate(program, port, window, 1), rate(program, port + 1, window, number)
+        rounds = [(rate(program, port, window, 1), rate(program, port + 1, window, number))
+                  for _ in range(RATES)]
+        one, many, times = medians([(each, other, other / each) for each, other in rounds])
         wanted = SHARE * number
-        told = judged(many >= wanted * one, f"at least {wanted}")
-        print(f"{window:>18}{one:>12.0f}{many:>12.0f}{many / one:>8.2f}  {told}", flush=True)
+        told = judged(times >= wanted, f"at least {wanted}")
+        print(f"{window:>18}{one:>12.0f}{many:>12.0f}{times:>8.2f}  {told}", flush=True)
         port += 2
     print(f"{'requests at a time':>18}{'TCP, us':>12}{'UDP, us':>12}{'times':>8}  wanted")
     for window in WINDOWS:
         rounds = [(cost(program, port, window, OverTcp), cost(program, port + 1, window, OverUdp))
                   for _ in range(ROUNDS)]
-        tcp, udp = map(min, zip(*rounds))
-        told = judged(tcp <= MOST * udp, f"at most {MOST}")
-        print(f"{window:>18}{tcp:>12.2f}{udp:>12.2f}{tcp / udp:>8.2f}  {told}", flush=True)
+        tcp, udp, times = medians([(each, other, each / other) for each, other in rounds])
+        told = judged(times <= MOST, f"at most {MOST}")
+        print(f"{window:>18}{tcp:>12.2f}{udp:>12.2f}{times:>8.2f}  {told}", flush=True)
         port += 2
 
 
