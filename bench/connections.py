@@ -4,9 +4,10 @@
 rd_host serves one directory of 64 registrations over UDP and TCP (RFC 8323). The first table has
 the lookups per second of one connection and of N connections. Each client is a process of its own
 that waits for each answer, or has 64 requests in progress. The default of N is 2. The second table
-has the processor time of the server for each lookup over TCP and over UDP. What a line compares
-alternates for several rounds, and each figure is a median of them: also the last one, which is of
-the ratios. The status is 1 if a lookup was not answered with its link.
+has the processor time of the server for each lookup over TCP and over UDP. In each line, the two
+settings that are compared alternate for several rounds. Each figure is the median of these rounds;
+that under "times" is the median of their ratios. The status is 1 if a lookup was not answered with
+its link.
 """
 
 import argparse
