@@ -114,8 +114,8 @@ fn wait_once<R: Clock + Copy>(
 
 /// Sends what was written, waits for octets, and returns how many arrived.
 ///
-/// Returns 0 at the end, and once the time that a message may take has passed. Returns `None` if the
-/// read or a write failed.
+/// Returns 0 at the end, and once the time that a message may take has passed. Returns `None` if
+/// the read or a write failed.
 fn received<R: Clock + Copy>(
     socket: &Socket,
     patience: &mut Patience,
