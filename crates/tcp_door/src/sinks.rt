@@ -7,9 +7,12 @@ use std::sync::Arc;
 
 /// The octets that are written to a connection. Contracts do not see them.
 ///
-/// They wait until the source of the connection reads again or is dropped, or until 4,096 wait. So
-/// the responses to requests that arrived together are sent together. A write fails if octets before
-/// it cannot be sent, because the peer takes nothing for 5 s.
+/// They wait until the source of the connection reads again or is dropped, or until there is no
+/// room for more: 4,096 octets may wait. So the responses to requests that arrived together are
+/// sent together.
+///
+/// A write fails if it has to send what waits before it, and the peer takes nothing for 5 s.
+/// Whether what waits at the end was sent is not reported.
 #[derive(Drop)]
 pub struct TcpSink {
     socket: Arc<Socket>,

@@ -30,9 +30,10 @@ fn send_from(stream: &TcpStream, waiting: &mut Vec<u8>) -> bool {
     is_sent
 }
 
-/// Appends octets from the beginning of `piece` to those that wait, and returns how many. Sends
-/// those that wait first, if there is no room for the whole piece. Returns `None` if that failed, or
-/// if memory runs out.
+/// Appends octets from the beginning of `piece` to those that wait, and returns how many.
+///
+/// Sends those that wait first, if there is no room for the whole piece. Returns `None` if that
+/// failed, or if memory runs out.
 fn append_to(stream: &TcpStream, waiting: &mut Vec<u8>, piece: &[u8]) -> Option<usize>
     ensures { IfSome result (λ n. n ≤ length piece.now) }
 {

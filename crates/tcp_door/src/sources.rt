@@ -20,8 +20,8 @@ const TURNS: u64 = 1 << 40;
 /// does not count. When the source is dropped after such a wait, it sends the peer a Release or an
 /// Abort. Dropping it ends the connection so that what was written is delivered.
 ///
-/// Before each wait for octets, what was written to the sink of the connection is sent. A read fails
-/// if the peer takes nothing of it for 5 s.
+/// Before each wait for octets, what was written to the sink of the connection is sent. A read
+/// fails if the peer takes nothing of it for 5 s.
 pub struct TcpSource<R: Clock + Copy> {
     socket: Arc<Socket>,
     patience: Patience,
@@ -112,8 +112,10 @@ fn wait_once<R: Clock + Copy>(
     }
 }
 
-/// Sends what was written, waits for octets, and returns how many arrived. Returns 0 at the end, and
-/// once the time that a message may take has passed. Returns `None` if the read or a write failed.
+/// Sends what was written, waits for octets, and returns how many arrived.
+///
+/// Returns 0 at the end, and once the time that a message may take has passed. Returns `None` if
+/// the read or a write failed.
 fn received<R: Clock + Copy>(
     socket: &Socket,
     patience: &mut Patience,
